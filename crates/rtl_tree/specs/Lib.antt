@@ -1,0 +1,4 @@
+pub mod Trees
+pub mod Moves
+pub mod Codes
+pub mod Names

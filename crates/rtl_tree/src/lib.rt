@@ -1,0 +1,19 @@
+//! Transfer trees: what one machine instruction reads, computes and assigns.
+//!
+//! A register transfer is a list of parallel assignments of trees to cells or to memory. This crate has the types of trees, of
+//! transfers, of the names that they mention and of sets of cells, with the calls that need no values: to take, copy, compare and
+//! substitute trees, and to test whether a transfer is well formed. Contracts see an expression as a pure tree (`tree_of`), an
+//! assignment as a move, and a transfer as the list of its moves.
+#![tactic(auto)]
+
+mod c_names;
+mod cells;
+mod expressions;
+mod memory;
+mod transfers;
+
+pub use c_names::{Name, NameList, Names};
+pub use cells::{Cell, Lab};
+pub use expressions::{BinOp, Expr, UnOp, Width};
+pub use memory::NoMemory;
+pub use transfers::{Assign, Effects, Place};

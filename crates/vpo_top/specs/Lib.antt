@@ -1,1 +1,3 @@
 pub mod Request
+pub mod FirstDescription
+pub mod Assembly

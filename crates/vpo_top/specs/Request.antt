@@ -2,9 +2,10 @@
 use Rattle.vpo_top.specs.declared.request.Request.{Request}
 use Rattle.vpo_top.specs.declared.request.Request.TheVariants.{Compile}
 use Rattle.std.specs.Prelude.{◌≡◌, ℕ, Bool, true, false, not, cond, ◌&&◌, ◌==◌, List, [], ◌∷◌, map, Option, Some, None, bytes_eq, codes, string_bytes, String}
+use Rattle.std.specs.declared.alloc.Global.{Global}
 
 -- the bytes of each word
-abbrev pub bytes_of_words : List String → List (List ℕ)
+abbrev pub bytes_of_words : List (String Global) → List (List ℕ)
 bytes_of_words words = map string_bytes words
 
 -- a word that may name a file: it isn't empty, and no option

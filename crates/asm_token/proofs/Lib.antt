@@ -1,0 +1,5 @@
+mod Bytes
+mod Lengths
+pub mod Front
+pub mod Steps
+mod Lines

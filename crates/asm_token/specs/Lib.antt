@@ -1,0 +1,4 @@
+pub mod Tokens
+pub mod Length
+pub mod Line
+pub mod Law

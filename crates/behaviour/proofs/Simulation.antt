@@ -1,11 +1,11 @@
 -- A machine that simulates another does the same.
-use Rattle.std.proofs.Common.{ℕ, zero, suc, ◌+◌, List, refl, sym, ap, ◌∙◌, arith}
-use Rattle.behaviour.specs.Behaviour.{Running}
+use Rattle.std.proofs.Common.{◌≡◌, ℕ, zero, suc, ◌+◌, List, refl, sym, ap, ◌∙◌, arith}
+use Rattle.behaviour.specs.Behaviour.{Running, Ended}
 use Rattle.behaviour.specs.Run.{NeverFails, Same, Keep, Reach, both_run, both_end}
-use Rattle.behaviour.specs.Steps.{Machine, OnlyPrints, run, Leads, both_lead, both_stop, source_fails, Simulates}
+use Rattle.behaviour.specs.Steps.{Move, Goes, Stops, Fails, Machine, OnlyPrints, run, Leads, Comes, Diagram, both_lead, both_stop, source_fails, Simulates, MovesAlike, Lockstep}
 use Rattle.behaviour.proofs.Reaching.{reach_same}
-use Rattle.behaviour.proofs.Sameness.{keep_of_same}
-use Rattle.behaviour.proofs.Stepping.{run_is_run}
+use Rattle.behaviour.proofs.Sameness.{keep_of_same, same_trans, target_never_fails}
+use Rattle.behaviour.proofs.Stepping.{run_is_run, leads_one, stops_one, fails_one, comes_same_back}
 
 module _ (M N : Machine) (R : M.State → N.State → Type 0) (sim : Simulates M N R) where
   lead_reach : (i : ℕ) (s s' : M.State) (t t' : N.State) → Leads M s s' → Leads N t t' → Reach i (run M s') (run N t') → Reach (suc i) (run M s) (run N t)
@@ -28,3 +28,27 @@ module _ (M N : Machine) (R : M.State → N.State → Type 0) (sim : Simulates M
     -- programs that start in related states
     pub simulation_keep : (start : List ℕ → M.State) (start' : List ℕ → N.State) → ((input : List ℕ) → R (start input) (start' input)) → Keep (λ input. run N (start' input)) (λ input. run M (start input))
     simulation_keep start start' related = keep_of_same _ _ (λ input. simulation_same (start input) (start' input) (related input))
+
+    -- the target first goes some steps
+    pub simulation_keep_after : (start : List ℕ → M.State) (start' begun : List ℕ → N.State) → ((input : List ℕ) → Comes N (start' input) (begun input))
+        → ((input : List ℕ) → R (start input) (begun input)) → Keep (λ input. run N (start' input)) (λ input. run M (start input))
+    simulation_keep_after start start' begun comes related = keep_of_same _ _ (λ input never.
+        let same = simulation_same (start input) (begun input) (related input) never in
+        same_trans _ _ _ same (comes_same_back N only_N (start' input) (begun input) (comes input) (target_never_fails _ _ same)))
+
+module _ (M N : Machine) (R : M.State → N.State → Type 0) where
+  lockstep_diagram : (s : M.State) (t : N.State) (x : Move M.State) (y : Move N.State) → M.step s ≡ x → N.step t ≡ y → MovesAlike R x y → Diagram M N R s t
+  lockstep_diagram s t (Goes s') (Goes t') e f r = both_lead s' t' (leads_one M s s' e) (leads_one N t t' f) r
+  lockstep_diagram s t (Goes s') (Stops out status) e f r = absurd r
+  lockstep_diagram s t (Goes s') (Fails out why) e f r = absurd r
+  lockstep_diagram s t (Stops out status) (Goes t') e f r = absurd r
+  lockstep_diagram s t (Stops out status) (Stops out' status') e f r =
+      both_stop 1 1 out status (stops_one M s out status e) (stops_one N t out' status' f ∙ ap (λ o. Ended o status') (sym r.0) ∙ ap (Ended out) (sym r.1))
+  lockstep_diagram s t (Stops out status) (Fails out' why) e f r = absurd r
+  lockstep_diagram s t (Fails out why) y e f r = source_fails 1 out why (fails_one M s out why e)
+
+  pub lockstep_simulates : Lockstep M N R → Simulates M N R
+  lockstep_simulates lock = record {
+    same_output = lock.same_output;
+    diagrams = λ s t r. lockstep_diagram s t (M.step s) (N.step t) refl refl (lock.moves s t r);
+  }

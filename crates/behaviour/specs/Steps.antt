@@ -58,3 +58,18 @@ pub data Diagram (M N : Machine) (R : M.State → N.State → Type 0) (s : M.Sta
 pub record Simulates (M N : Machine) (R : M.State → N.State → Type 0) : Type 0 where
   pub same_output : (s : M.State) (t : N.State) → R s t → M.printed s ≡ N.printed t
   pub diagrams : (s : M.State) (t : N.State) → R s t → Diagram M N R s t
+
+-- both moves go to related states, or both stop alike, or the source's move fails
+abbrev pub MovesAlike : {S T : Type 0} → (S → T → Type 0) → Move S → Move T → Type 0
+MovesAlike R (Goes s) (Goes t) = R s t
+MovesAlike R (Goes s) (Stops out status) = ⊥
+MovesAlike R (Goes s) (Fails out why) = ⊥
+MovesAlike R (Stops out status) (Goes t) = ⊥
+MovesAlike R (Stops out status) (Stops out' status') = (out ≡ out') × (status ≡ status')
+MovesAlike R (Stops out status) (Fails out' why) = ⊥
+MovesAlike R (Fails out why) y = Unit {0}
+
+-- a simulation of one step by one step
+pub record Lockstep (M N : Machine) (R : M.State → N.State → Type 0) : Type 0 where
+  pub same_output : (s : M.State) (t : N.State) → R s t → M.printed s ≡ N.printed t
+  pub moves : (s : M.State) (t : N.State) → R s t → MovesAlike R (M.step s) (N.step t)

@@ -1,7 +1,4 @@
 pub mod Codes
-pub mod Contents
 pub mod Counts
+pub mod Contents
 pub mod Files
-pub mod MemoryFiles
-pub mod MemorySink
-pub mod MemorySource

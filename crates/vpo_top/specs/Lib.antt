@@ -1,3 +1,4 @@
 pub mod Request
 pub mod FirstDescription
 pub mod Assembly
+pub mod Messages

@@ -3,7 +3,7 @@
 ghost use Rattle.std.specs.Prelude.{◌≡◌, ◌+◌, ◌≤◌, ◌++◌, ◌<◌, length, decimal};
 ghost use Rattle.arrayvec.specs.ArrayString.{array_string_len};
 ghost use Rattle.vp_io.specs.Counts.{HasCause};
-ghost use Rattle.vpo_top.specs.Messages.{input_name, complaint, message, IsReported};
+ghost use Rattle.vpo_top.specs.Messages.{input_name, complaint, message, IsReported, IsDone};
 
 use arrayvec::ArrayString;
 use itoa::Buffer;

@@ -22,23 +22,23 @@ complaint NoMemory = codes "no memory"
 complaint BadWords = codes "bad words"
 complaint (FileTooLong which) = codes "file too long: " ++ input_name which
 complaint (BadDescription r) =
-    codes "description line " ++ decimal r.line ++ codes ": rule " ++ decimal r.rule ++ codes " (" ++ decimal r.detail ++ codes ")"
-complaint (BadSource r) = codes "source line " ++ decimal r.line ++ codes " column " ++ decimal r.column ++ codes ": rule " ++ decimal r.rule
-complaint (BadAssembly r) = codes "assembly line " ++ decimal r.line ++ codes ": rule " ++ decimal r.rule
+    codes "description line " ++ (decimal r.line ++ (codes ": rule " ++ (decimal r.rule ++ (codes " (" ++ (decimal r.detail ++ codes ")")))))
+complaint (BadSource r) = codes "source line " ++ (decimal r.line ++ (codes " column " ++ (decimal r.column ++ (codes ": rule " ++ decimal r.rule))))
+complaint (BadAssembly r) = codes "assembly line " ++ (decimal r.line ++ (codes ": rule " ++ decimal r.rule))
 complaint (ReadFault which) = codes "read fault: " ++ input_name which
 complaint WriteFault = codes "write fault"
-complaint (Trapped kind place) = codes "trap " ++ decimal kind ++ codes " at " ++ decimal place
+complaint (Trapped kind place) = codes "trap " ++ (decimal kind ++ (codes " at " ++ decimal place))
 complaint (Spent steps) = decimal steps ++ codes " steps spent"
 
 -- the whole line
 abbrev pub message : Outcome → List ℕ
-message (Done status) = []
-message outcome = codes "vpo: " ++ complaint outcome ++ 10 ∷ []
+message outcome = codes "vpo: " ++ (complaint outcome ++ 10 ∷ [])
 
--- the line was written whole, or, where the stream failed, some first bytes of it
+-- this line was written whole, or, where the stream failed, some first bytes of it
+abbrev pub IsWritten : List ℕ → Option (List ℕ) → Option (List ℕ) → ℕ → ℕ → Type 0
+IsWritten line old new before now = Appends old new line ⊎ (AppendsPart old new line × Rose before now)
+
+-- what is written to the error stream, of which the count of faults goes from before to now
 abbrev pub IsReported : Outcome → Option (List ℕ) → Option (List ℕ) → ℕ → ℕ → Type 0
-IsReported outcome old new before now =
-    Appends old new (message outcome) ⊎ (AppendsPart old new (message outcome) × Rose before now)
-
-abbrev pub IsDone : Outcome → Type 0
-IsDone outcome = (status : ℕ) × (outcome ≡ Done status)
+IsReported (Done status) old new before now = (new ≡ old) × (now ≡ before)
+IsReported outcome old new before now = IsWritten (message outcome) old new before now

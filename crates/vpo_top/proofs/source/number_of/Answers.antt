@@ -1,4 +1,4 @@
-use Rattle.std.proofs.Common.{◌≡◌, ◌≢◌, ◌<◌, List, ℕ, length, get_or, subst, sym}
+use Rattle.std.proofs.Common.{◌≡◌, ◌≢◌, ◌<◌, List, ℕ, length, get_or, subst, arith}
 use Rattle.vpo_top.proofs.SourceText.{no_leading_zero, not_parsed, parsed_otherwise, parsed_number, digits_are_text}
 use Rattle.vpo_top.proofs.source.number_of.Goals as goal
 use Rattle.vpo_top.proofs.source.number_of.Goals.{else-digits-gt1-via-then-digits-gt1+else-digits-eq48, else-digits-gt1-via-else-digits-gt1}

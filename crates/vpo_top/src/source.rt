@@ -175,3 +175,79 @@ fn number_of(digits: &[u8]) -> Option<u16>
     };
     if number <= MAX_NUMBER { Some(number) } else { None }
 }
+
+#[cfg(test)]
+mod tests {
+    use super::*;
+
+    fn reads(alloc: Global, text: &[u8], calls: &[u16], status: u16) -> bool {
+        match read_source(alloc, text) {
+            Ok(program) => *program.calls.as_slice() == *calls && program.status == status,
+            Err(_) => false,
+        }
+    }
+
+    fn refuses(alloc: Global, text: &[u8]) -> bool {
+        matches!(read_source(alloc, text), Err(SourceFault::Refused))
+    }
+
+    /// A source with so many calls.
+    fn with_calls(alloc: Global, count: usize) -> Result<Vec<u8>, AllocError> {
+        let mut text = Vec::from_slice(alloc, b"#include <stdio.h>\nint main(void){")?;
+        for _ in 0..count {
+            text.extend_from_slice(b"putchar(65);")?;
+        }
+        text.extend_from_slice(b"return 0;}")?;
+        Ok(text)
+    }
+
+    #[test]
+    fn reads_sources(rt: HostRuntime) {
+        let cases: [(&[u8], &[u16], u16); 6] = [
+            (b"int main(void){return 7;}", &[], 7),
+            (b"int main(void){\nreturn 32767;\n}\n", &[], 32767),
+            (b"#include <stdio.h>\nint main(void){return 0;}", &[], 0),
+            (b"#include <stdio.h>\nint main(void){putchar(72);putchar(321);return 7;}", &[72, 321], 7),
+            (b"#include <stdio.h>\nint main(void){\nputchar(0);\nputchar(10);\nreturn 1;\n}\n", &[0, 10], 1),
+            (b"#include <stdio.h>\nint main(void){putchar(32767);\nreturn 100;}\n", &[32767], 100),
+        ];
+        for (text, calls, status) in cases {
+            assert!(rt; reads(rt.alloc(), text, calls, status), "status {status}");
+        }
+    }
+
+    #[test]
+    fn refuses_other_texts(rt: HostRuntime) {
+        let cases: [&[u8]; 16] = [
+            b"",
+            b"int main(void){putchar(72);return 7;}",
+            b"#include <stdio.h>int main(void){return 7;}",
+            b"#include <stdio.h>\n\nint main(void){return 7;}",
+            b"#include <stdio.h>\nint main(void){putchar(x);return 7;}",
+            b"#include <stdio.h>\nint main(void){putchar(01);return 7;}",
+            b"#include <stdio.h>\nint main(void){putchar(32768);return 7;}",
+            b"#include <stdio.h>\nint main(void){putchar(65536);return 7;}",
+            b"#include <stdio.h>\nint main(void){putchar();return 7;}",
+            b"#include <stdio.h>\nint main(void){putchar(+1);return 7;}",
+            b"int main(void){ return 7;}",
+            b"int main(void){return 7;",
+            b"int main(void){return 7;}}",
+            b"int main(void){return 7;}\n\n",
+            b"int main(void){\n\nreturn 7;}",
+            b"int main(void)\n{return 7;}",
+        ];
+        for (index, text) in cases.iter().enumerate() {
+            assert!(rt; refuses(rt.alloc(), text), "case {index}");
+        }
+    }
+
+    #[test]
+    fn counts_calls(rt: HostRuntime) -> Result<(), AllocError> {
+        let most = with_calls(rt.alloc(), 1000)?;
+        let program = read_source(rt.alloc(), &most).expect(&rt, "1,000 calls");
+        assert_eq!(rt; program.calls.len(), 1000);
+        let more = with_calls(rt.alloc(), 1001)?;
+        assert!(rt; refuses(rt.alloc(), &more), "1,001 calls");
+        Ok(())
+    }
+}

@@ -1,0 +1,7 @@
+pub mod Prefix
+pub mod Growth
+pub mod Sameness
+pub mod Reaching
+pub mod Stepping
+pub mod Simulation
+pub mod Different

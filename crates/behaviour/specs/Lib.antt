@@ -1,0 +1,5 @@
+pub mod Behaviour
+pub mod Run
+pub mod Steps
+pub mod Laws
+pub mod Counterexamples

@@ -1,8 +1,9 @@
 -- What one run shows at a lesser and a greater bound.
-use Rattle.std.proofs.Common.{◌≡◌, ◌≢◌, ℕ, ◌≤◌, List, sym, ◌∙◌, subst, arith, inl, inr, ◌⊎◌}
+use Rattle.std.proofs.Common.{◌≡◌, ◌≢◌, ℕ, ◌≤◌, List, refl, sym, ◌∙◌, subst, arith, inl, inr, ◌⊎◌}
 use Rattle.std.proofs.lemmas.Bool.{cases_lt}
 use Rattle.behaviour.specs.Behaviour.{Wrong, Behaviour, Running, Ended, Failed, output, IsPrefix, IsExtendedBy}
 use Rattle.behaviour.specs.Run.{Run, IsRun, NeverFails}
+use Rattle.behaviour.specs.Laws.{ConstantIsRun}
 use Rattle.behaviour.proofs.Prefix.{prefix_refl}
 
 pub running_not_ended : (out out' : List ℕ) (status : ℕ) → Running out ≢ Ended out' status
@@ -22,6 +23,11 @@ pub extended_output : (x y : Behaviour) → IsExtendedBy x y → IsPrefix (outpu
 extended_output (Running out) y later = later
 extended_output (Ended out status) y later = subst (λ z. IsPrefix out (output z)) (sym later) (prefix_refl out)
 extended_output (Failed out why) y later = subst (λ z. IsPrefix out (output z)) (sym later) (prefix_refl out)
+
+extended_refl : (x : Behaviour) → IsExtendedBy x x
+extended_refl (Running out) = prefix_refl out
+extended_refl (Ended out status) = refl
+extended_refl (Failed out why) = refl
 
 module _ (r : Run) (is : IsRun r) where
   pub output_grows : (n m : ℕ) → n ≤ m → IsPrefix (output (r n)) (output (r m))
@@ -47,3 +53,6 @@ module _ (r : Run) (is : IsRun r) where
       | inr le ↦ ended_not_failed _ _ _ _ (sym e ∙ failure_stands m n out' why le f)
     ];
   }
+
+pub constant_is_run : ConstantIsRun
+constant_is_run seen = record { extends = λ n m le. extended_refl seen }

@@ -1,7 +1,10 @@
 -- Laws of runs.
 use Rattle.std.specs.Prelude.{◌≡◌, ◌↔◌, ℕ, List}
-use Rattle.behaviour.specs.Behaviour.{Ended}
-use Rattle.behaviour.specs.Run.{Run, IsRun, NeverFails, Same, Keep, Reach, IsFollowedBy}
+use Rattle.behaviour.specs.Behaviour.{Behaviour, Ended}
+use Rattle.behaviour.specs.Run.{Run, IsRun, NeverFails, Same, Keep, constant, Reach, IsFollowedBy}
+
+abbrev pub ConstantIsRun : Type 0
+ConstantIsRun = (seen : Behaviour) → IsRun (constant seen)
 
 -- a run is the same as itself exactly where it never fails
 abbrev pub SameIsReflexive : Type 0
@@ -18,7 +21,9 @@ SameEndsAlike =
 
 -- runs that come as far as any bound with the same output, or end alike, are the same
 abbrev pub ReachIsSame : Type 0
-ReachIsSame = (source target : Run) → IsRun source → IsRun target → ((bound : ℕ) → Reach bound source target) → Same source target
+ReachIsSame =
+    (source target : Run) → IsRun source → IsRun target
+    → ((bound : ℕ) → Reach bound source target) → Same source target
 
 -- a target that follows its source at each bound is the same
 abbrev pub FollowedIsSame : Type 0
@@ -40,4 +45,6 @@ KeepIsTransitive = (old middle new : List ℕ → Run) → Keep middle old → K
 
 -- what keeps a target that is the same as a source is the same as it
 abbrev pub KeepKeepsSame : Type 0
-KeepKeepsSame = (source : Run) (old new : List ℕ → Run) (input : List ℕ) → Same source (old input) → Keep new old → Same source (new input)
+KeepKeepsSame =
+    (source : Run) (old new : List ℕ → Run) (input : List ℕ)
+    → Same source (old input) → Keep new old → Same source (new input)

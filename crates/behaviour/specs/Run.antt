@@ -6,6 +6,10 @@ use Rattle.behaviour.specs.Behaviour.{Wrong, Behaviour, Running, Ended, Failed, 
 abbrev pub Run : Type 0
 Run = ℕ → Behaviour
 
+-- the same is seen at each bound
+abbrev pub constant : Behaviour → Run
+constant seen bound = seen
+
 pub record IsRun (r : Run) : Type 0 where
   pub extends : (n m : ℕ) → n ≤ m → IsExtendedBy (r n) (r m)
 

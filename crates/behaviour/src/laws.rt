@@ -1,7 +1,13 @@
 // Laws of runs.
 
-ghost use Rattle.behaviour.specs.Laws.{SameIsReflexive, SameIsTransitive, SameEndsAlike, ReachIsSame, FollowedIsSame, EndedIsSame, KeepIsReflexive, KeepIsTransitive, KeepKeepsSame};
+ghost use Rattle.behaviour.specs.Laws.{ConstantIsRun, SameIsReflexive, SameIsTransitive, SameEndsAlike, ReachIsSame, FollowedIsSame, EndedIsSame, KeepIsReflexive, KeepIsTransitive, KeepKeepsSame};
 
+/// For programs that need no bound, as those without loops and calls.
+pub fn constant_is_run()
+    ensures { ConstantIsRun }
+{}
+
+/// `Same` is of use only for sources that never fail.
 pub fn same_is_reflexive()
     ensures { SameIsReflexive }
 {}
@@ -24,7 +30,7 @@ pub fn followed_is_same()
     ensures { FollowedIsSame }
 {}
 
-/// For programs that are seen to end, as those without loops and calls.
+/// For programs that are seen to end.
 pub fn ended_is_same()
     ensures { EndedIsSame }
 {}

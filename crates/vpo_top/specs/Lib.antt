@@ -2,3 +2,5 @@ pub mod Request
 pub mod FirstDescription
 pub mod Assembly
 pub mod Messages
+pub mod Source
+pub mod SourceReading

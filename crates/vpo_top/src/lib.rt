@@ -3,3 +3,4 @@
 
 mod report;
 mod request;
+pub mod source;

@@ -1,8 +1,8 @@
 -- The classes of bytes are apart.
-use Rattle.std.proofs.Common.{◌≡◌, ℕ, ◌+◌, ◌<◌, ◌≤◌, Bool, true, false, ◌||◌, ◌&&◌, eqb, ltb, leb, refl, ap, arith, rules, ◌⊎◌, inl, inr}
-use Rattle.std.proofs.lemmas.Bool.{or_cases, and_parts, eqb-true, leb-true, not-true, eqb-false, true≢false, ne_eqb, or_from, and_left, and_right, lt-leb, or_left, or_right, false_from_ne_true, or_parts}
+use Rattle.std.proofs.Common.{◌≡◌, ℕ, ◌<◌, ◌≤◌, true, false, eqb, arith}
+use Rattle.std.proofs.lemmas.Bool.{and_parts, leb-true, eqb-false, or_left, or_right, or_parts}
 use Rattle.std.proofs.lemmas.Bool.Decides.{nat_tests}
-use Rattle.std.specs.Char.{is_ascii_alphabetic, is_ascii_digit}
+use Rattle.std.specs.Char.{is_ascii_digit}
 use Rattle.asm_token.specs.Tokens.{is_name_start, is_name_byte, is_mark}
 use Rattle.std.specs.Int.{IsInRange}
 use Rattle.asm_token.specs.Length.{is_nonzero_digit}

@@ -1,5 +1,5 @@
 -- How many bytes the longest token has with which a text begins.
-use Rattle.std.proofs.Common.{◌≡◌, ℕ, ◌+◌, ◌^◌, ◌<◌, ◌≤◌, min, suc, zero, ℤ, pos, negsuc, Bool, true, false, cond, ◌||◌, ◌&&◌, eqb, ltb, leb, List, [], ◌∷◌, ◌++◌, length, get_or, take, drop, refl, sym, ap, subst, ◌∙◌, arith, rules, inl, inr}
+use Rattle.std.proofs.Common.{◌≡◌, ℕ, ◌+◌, ◌^◌, ◌<◌, ◌≤◌, suc, zero, pos, negsuc, Bool, true, false, cond, eqb, List, [], ◌∷◌, ◌++◌, length, get_or, refl, sym, ap, ◌∙◌, arith}
 use Rattle.std.proofs.lemmas.Bool.{and_parts, ne_eqb}
 use Rattle.std.proofs.lemmas.List.Elements.{All-head, All-tail, All-cons, All-nil}
 use Rattle.std.proofs.lemmas.Str.Parse.{IsNumeralModel, numerals_by_value, tells_all_ascii_digits}
@@ -11,7 +11,7 @@ use Rattle.std.specs.Str.{all_ascii_digits}
 use Rattle.std.specs.Str.Parse.{digits_value}
 use Rattle.asm_token.specs.Tokens.{Token, Name, Number, Mark, is_name_start, is_name_byte, is_mark, IsToken, spelling}
 use Rattle.asm_token.specs.Length.{is_nonzero_digit, digit_count, magnitude_length, negative_length, token_length}
-use Rattle.asm_token.proofs.Bytes.{start_is_name, digit_is_name, digit_no_start, mark_no_start, digit_no_mark, nonzero_no_zero, digit_no_minus, nonzero_is_digit, digit_above, no_name_no_digit}
+use Rattle.asm_token.proofs.Bytes.{start_is_name, digit_no_start, mark_no_start, digit_no_mark, nonzero_no_zero, digit_no_minus, nonzero_is_digit, digit_above, no_name_no_digit}
 
 pub prefix_at_least : (p : ℕ → Bool) (xs ys : List ℕ) → AllPass p xs → length xs ≤ prefix_len p (xs ++ ys)
 prefix_at_least p [] ys h = omega arith
@@ -68,7 +68,7 @@ decimal_numeral n l h =
 magnitude_is : (d : ℕ) (ds : List ℕ) → is_nonzero_digit d ≡ true → magnitude_length (d ∷ ds) ≡ digit_count (d ∷ ds)
 magnitude_is d ds h = rw h
 
-number_is : (d : ℕ) (ds : List ℕ) → is_nonzero_digit d ≡ true → token_length (d ∷ ds) ≡ digit_count (d ∷ ds)
+pub number_is : (d : ℕ) (ds : List ℕ) → is_nonzero_digit d ≡ true → token_length (d ∷ ds) ≡ digit_count (d ∷ ds)
 number_is d ds h =
     let digit : is_ascii_digit d ≡ true = nonzero_is_digit d h in
     let a : is_name_start d ≡ false = digit_no_start d digit in
@@ -98,7 +98,7 @@ name_is b bs h = rw h
 mark_is : (b : ℕ) (bs : List ℕ) → is_mark b ≡ true → token_length (b ∷ bs) ≡ 1
 mark_is b bs h = let a : is_name_start b ≡ false = mark_no_start b h in rw a (rw h)
 
-negative_more : (n : ℕ) → 0 < n → negative_length n ≡ n + 1
+pub negative_more : (n : ℕ) → 0 < n → negative_length n ≡ n + 1
 negative_more n l = let e : eqb n 0 ≡ false = ne_eqb n 0 (λ z. omega arith) in rw e
 
 name_passes : (b : ℕ) (bs : List ℕ) → is_name_start b ≡ true → AllPass is_name_byte bs → AllPass is_name_byte (b ∷ bs)

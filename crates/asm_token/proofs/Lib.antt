@@ -1,7 +1,7 @@
-mod Bytes
-mod Lengths
-mod Digits
-mod Found
+pub mod Bytes
+pub mod Lengths
 pub mod Front
 pub mod Steps
-mod Lines
+pub mod Lines
+mod Digits
+mod Found

@@ -1,11 +1,10 @@
 -- The tokens of a written line are read back.
-use Rattle.std.proofs.Common.{◌≡◌, ℕ, ◌+◌, ◌≤◌, Bool, true, false, ◌&&◌, cond, List, [], ◌∷◌, ◌++◌, length, refl, sym, ap, subst, ◌∙◌, arith}
-use Rattle.std.proofs.lemmas.Bool.{both_ways}
+use Rattle.std.proofs.Common.{◌≡◌, ℕ, Bool, true, false, ◌&&◌, cond, List, [], ◌∷◌, ◌++◌, length, refl, subst, arith}
 use Rattle.std.proofs.lemmas.List.{append-nil}
 use Rattle.std.proofs.lemmas.List.Elements.{All-head, All-tail}
 use Rattle.std.specs.List.{All}
 use Rattle.std.specs.Prelude.{IsTrue}
-use Rattle.asm_token.specs.Tokens.{Token, Name, Number, Mark, is_name_byte, IsToken, spelling, Longest, Spells, at_end, after_gap, one_token}
+use Rattle.asm_token.specs.Tokens.{Token, Name, Number, Mark, IsToken, spelling, Longest, Spells, at_end, after_gap, one_token}
 use Rattle.asm_token.specs.Length.{token_length}
 use Rattle.asm_token.specs.Line.{is_word, space_between, after_token, line_of}
 use Rattle.asm_token.proofs.Bytes.{mark_no_name}
@@ -50,7 +49,7 @@ after_reads_back gap t (u ∷ us) g h =
     let others : All IsToken us = All-tail IsToken u us h in
     let head : IsToken u = All-head IsToken u us h in
     spaced gap (is_word t && is_word u) (spelling u ++ after_token u us) (u ∷ us) g
-      (one_token u (after_token u us) us head (longest_where_it_stands u (after_token u us) head (stands_before u us others)) (after_reads_back gap u us g others))
+    (one_token u (after_token u us) us head (longest_where_it_stands u (after_token u us) head (stands_before u us others)) (after_reads_back gap u us g others))
 
 pub line_reads_back : (gap : ℕ → Bool) (ts : List Token) → IsTrue (gap 32) → All IsToken ts → Spells gap (line_of ts) ts
 line_reads_back gap [] g h = at_end
@@ -65,5 +64,5 @@ line_reads_back gap (t ∷ (u ∷ us)) g h =
     let last : All IsToken us = All-tail IsToken u us others in
     let rest : List ℕ = spelling u ++ after_token u us in
     one_token t (32 ∷ rest) (u ∷ us) head (longest_where_it_stands t (32 ∷ rest) head (stands_at_space t rest))
-      (after_gap 32 rest (u ∷ us) g
-        (one_token u (after_token u us) us next (longest_where_it_stands u (after_token u us) next (stands_before u us last)) (after_reads_back gap u us g last)))
+    (after_gap 32 rest (u ∷ us) g
+    (one_token u (after_token u us) us next (longest_where_it_stands u (after_token u us) next (stands_before u us last)) (after_reads_back gap u us g last)))

@@ -1,5 +1,5 @@
 -- What the longest token, a gap and the end tell of the tokens that a text spells.
-use Rattle.std.proofs.Common.{◌≡◌, ℕ, ◌+◌, ◌^◌, ◌<◌, ◌≤◌, suc, zero, ℤ, pos, negsuc, Bool, true, false, eqb, List, [], ◌∷◌, ◌++◌, length, take, drop, refl, sym, ap, subst, ◌∙◌, arith, length-append, inl, inr}
+use Rattle.std.proofs.Common.{◌≡◌, ℕ, ◌^◌, ◌<◌, ◌≤◌, ℤ, pos, negsuc, Bool, false, eqb, List, [], ◌∷◌, ◌++◌, length, take, drop, refl, sym, ap, subst, ◌∙◌, arith, length-append, inl, inr}
 use Rattle.std.proofs.lemmas.Bool.{eqb-true, or_cases, both_ways}
 use Rattle.std.proofs.lemmas.Fmt.{signed_decimal_injective}
 use Rattle.std.proofs.lemmas.List.{take_at, drop_at}
@@ -121,5 +121,7 @@ pub blank_is_gap : IsGap is_blank
 blank_is_gap = record { apart = λ b bs g. no_token_at b 32 bs (eqb-true b 32 g) refl }
 
 pub blank_or_tab_is_gap : IsGap is_blank_or_tab
-blank_or_tab_is_gap = record { apart = λ b bs g.
-    elim (or_cases (eqb b 32) (eqb b 9) g) [ inl e ↦ no_token_at b 32 bs (eqb-true b 32 e) refl | inr e ↦ no_token_at b 9 bs (eqb-true b 9 e) refl ] }
+blank_or_tab_is_gap = record {
+  apart = λ b bs g.
+      elim (or_cases (eqb b 32) (eqb b 9) g) [ inl e ↦ no_token_at b 32 bs (eqb-true b 32 e) refl | inr e ↦ no_token_at b 9 bs (eqb-true b 9 e) refl ];
+}

@@ -1,12 +1,16 @@
 //! A token, and the longest one with which a text begins.
 
-ghost use Rattle.std.specs.Prelude.{◌≡◌, ◌+◌, ◌≤◌, ◌<◌, ◌^◌, ◌++◌, length, take, pos, IfSome, IfNone, IsTrue, ◌↔◌, OnOk, OnErr};
+ghost use Rattle.std.specs.Prelude.{◌≡◌, ◌+◌, ◌≤◌, ◌<◌, ◌^◌, ◌++◌, take, IfSome, IfNone, OnOk, OnErr};
 ghost use Rattle.std.specs.Char.{is_ascii_digit};
 ghost use Rattle.std.specs.List.{prefix_len};
 ghost use Rattle.std.specs.Str.Parse.{digits_value};
-ghost use Rattle.asm_token.specs.Tokens.{is_name_start, is_name_byte, is_mark, BeginsNoToken, LongestToken};
-ghost use Rattle.asm_token.specs.Length.{digit_count, magnitude_length};
+ghost use Rattle.std.specs.Vec.{VecUnchanged};
+ghost use Rattle.asm_token.specs.Tokens.{is_name_start, is_name_byte, is_mark, spelling, BeginsNoToken, LongestToken};
+ghost use Rattle.asm_token.specs.Length.{LeadingMagnitude, digit_count, magnitude_length};
 ghost use Rattle.asm_token.specs.Seen.{token_of};
+
+use itoa::Buffer;
+use std::alloc::AllocError;
 
 /// A token of an assembly line: a name (a letter, `_`, `$` or `.`, then these or digits), a
 /// decimal number of at most ten digits, or one of the bytes `# ( ) , + @ :`.
@@ -59,9 +63,9 @@ fn leading_digits(text: &[u8]) -> (u64, usize)
     (value, length)
 }
 
-/// The digits with which a number other than 0 begins: its magnitude and their count.
+/// The number above 0 with which the text begins, and how many digits it has.
 fn magnitude_at(text: &[u8]) -> Option<(i64, usize)>
-    ensures found { IfSome result (λ m. (m.1 ≡ magnitude_length text.now) × (0 < m.1) × (m.0 ≡ pos (digits_value 10 (take m.1 text.now)))) }
+    ensures found { IfSome result (λ found. LeadingMagnitude text.now found.0 found.1) }
     ensures none { IfNone result (magnitude_length text.now ≡ 0) }
 {
     match text.first() {
@@ -73,7 +77,9 @@ fn magnitude_at(text: &[u8]) -> Option<(i64, usize)>
     }
 }
 
-/// The longest token with which the text begins, and how many bytes it has.
+/// The longest token with which the text begins, and how many bytes it has: `00` begins with the
+/// number 0, and eleven digits begin with a number of ten. A `-` belongs to a number only where
+/// a digit from 1 to 9 follows it.
 pub fn token_at(text: &[u8]) -> Option<(Token<'_>, usize)>
     ensures found { IfSome result (λ found. LongestToken text.now (token_of found.0) found.1) }
     ensures none { IfNone result (BeginsNoToken text.now) }
@@ -92,5 +98,20 @@ pub fn token_at(text: &[u8]) -> Option<(Token<'_>, usize)>
     } else {
         let (magnitude, length) = magnitude_at(text)?;
         Some((Token::Number(magnitude), length))
+    }
+}
+
+/// Appends the bytes that spell the token. Where memory ends, the bytes stay as they were.
+pub fn push_token(out: &mut Vec<u8>, token: Token<'_>) -> Result<(), AllocError>
+    ensures ok { OnOk result (out.new.items ≡ out.old.items ++ spelling (token_of token.entry)) }
+    ensures err { OnErr result (VecUnchanged out.old out.new) }
+{
+    match token {
+        Token::Name(name) => out.extend_from_slice(name),
+        Token::Number(number) => {
+            let mut buffer = Buffer::new();
+            out.extend_from_slice(buffer.format(number).as_bytes())
+        }
+        Token::Mark(mark) => Ok(out.push(mark)?),
     }
 }

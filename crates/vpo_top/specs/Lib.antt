@@ -4,3 +4,5 @@ pub mod Assembly
 pub mod Messages
 pub mod Source
 pub mod SourceReading
+pub mod Spacing
+pub mod Compiled

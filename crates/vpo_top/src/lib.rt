@@ -1,6 +1,7 @@
 //! The whole of what the program does, between the words of the command line and the bytes that are written.
 #![tactic(auto)]
 
+mod assembly;
 mod report;
 mod request;
 pub mod source;

@@ -1,2 +1,3 @@
 mod Reports
+mod Lines
 pub mod SourceText

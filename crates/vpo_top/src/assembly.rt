@@ -2,15 +2,14 @@
 
 ghost use Rattle.std.specs.Prelude.{◌≡◌, ◌<◌, ◌++◌, [], ◌∷◌, ℕ, IfOk, OnOk, List, flat_map, option_map, slice_get, if◌then◌else◌};
 ghost use Rattle.rtl_word.specs.Words.{IsWordSize};
-ghost use Rattle.asm_token.specs.Tokens.{Token as SpecToken, spelling};
+ghost use Rattle.asm_token.specs.Tokens.{Token as SpecToken, Number as NumberToken, spelling};
 ghost use Rattle.asm_token.specs.Seen.{token_of};
 ghost use Rattle.asm_token.specs.Line.{is_word, line_of};
 ghost use Rattle.md_rows.specs.Instances.{piece_token, hole_token, tokens_with};
 ghost use Rattle.vpo_top.specs.Compiled.{binding_of, instance_of, call_instructions, row_line, instruction_line, instruction_lines, compiled_text};
 ghost use Rattle.vpo_top.specs.Spacing.{separator, next_before, line_from, with_token};
 
-use asm_token::Token;
-use itoa::Buffer;
+use asm_token::token::{Token, push_token};
 use md_rows::{Hole, Piece, RawDescription, Row, number_of_word};
 use std::alloc::{AllocError, Global};
 
@@ -94,7 +93,7 @@ fn push_tokens(text: &mut Vec<u8>, bits: u32, row: &Row, number: Option<u16>) ->
 
 /// Appends a token, if there is one, and tells what then stands before the next.
 fn push_piece(text: &mut Vec<u8>, before: Before, token: Option<Token<'_>>) -> Result<Before, AllocError>
-    ensures { IfOk result (λ next. (ts : List SpecToken) → text.new.items ++ line_from next ts ≡ text.old.items ++ line_from before (with_token (option_map token_of token) ts)) }
+    ensures { IfOk result (λ next. (ts : List SpecToken) → text.new.items ++ line_from next ts ≡ text.old.items ++ line_from before (with_token (option_map token_of token.entry) ts)) }
 {
     let Some(token) = token else {
         return Ok(before);
@@ -107,7 +106,7 @@ fn push_piece(text: &mut Vec<u8>, before: Before, token: Option<Token<'_>>) -> R
 }
 
 fn needs_space(before: Before, token: Token<'_>) -> bool
-    ensures { (if result then 32 ∷ [] else []) ≡ separator before (token_of token) }
+    ensures { (if result then 32 ∷ [] else []) ≡ separator before (token_of token.entry) }
 {
     match before {
         Before::Start | Before::Mark => false,
@@ -117,7 +116,7 @@ fn needs_space(before: Before, token: Token<'_>) -> bool
 }
 
 fn behind(before: Before, token: Token<'_>) -> Before
-    ensures { result ≡ next_before before (token_of token) }
+    ensures { result ≡ next_before before (token_of token.entry) }
 {
     match before {
         Before::Start => Before::FirstToken,
@@ -132,26 +131,12 @@ fn behind(before: Before, token: Token<'_>) -> Before
 }
 
 fn is_name_or_number(token: Token<'_>) -> bool
-    ensures { result ≡ is_word (token_of token) }
+    ensures { result ≡ is_word (token_of token.entry) }
 {
     match token {
         Token::Name(_) | Token::Number(_) => true,
         Token::Mark(_) => false,
     }
-}
-
-fn push_token(text: &mut Vec<u8>, token: Token<'_>) -> Result<(), AllocError>
-    ensures { OnOk result (text.new.items ≡ text.old.items ++ spelling (token_of token)) }
-{
-    match token {
-        Token::Name(bytes) => text.extend_from_slice(bytes)?,
-        Token::Number(number) => {
-            let mut digits = Buffer::new();
-            text.extend_from_slice(digits.format(number).as_bytes())?;
-        }
-        Token::Mark(mark) => text.push(mark)?,
-    }
-    Ok(())
 }
 
 /// The token of a piece, where the row has a number hole at most.
@@ -163,19 +148,22 @@ fn token_of_piece<'a>(bits: u32, holes: &[Hole], number: Option<u16>, piece: &'a
         Piece::Name(name) => Some(Token::Name(name.as_slice())),
         Piece::Num(number) => Some(Token::Number(*number)),
         Piece::Byte(mark) => Some(Token::Mark(*mark)),
-        Piece::Hole(hole) => token_of_hole(bits, holes, number, *hole),
+        Piece::Hole(hole) => match number_of_hole(bits, holes, number, *hole) {
+            Some(number) => Some(Token::Number(number)),
+            None => None,
+        },
     }
 }
 
-fn token_of_hole<'a>(bits: u32, holes: &[Hole], number: Option<u16>, hole: u8) -> Option<Token<'a>>
+fn number_of_hole(bits: u32, holes: &[Hole], number: Option<u16>, hole: u8) -> Option<i64>
     requires { IsWordSize bits }
-    ensures { option_map token_of result ≡ hole_token bits (slice_get holes.now hole) (slice_get (binding_of number) hole) }
+    ensures { option_map NumberToken result ≡ hole_token bits (slice_get holes.now hole) (slice_get (binding_of number) hole) }
 {
     let Some(Hole::Num { low, high, inverted }) = holes.get(usize::from(hole)) else {
         return None;
     };
     match number {
-        Some(word) if hole == 0 => number_of_word(bits, *low, *high, *inverted, u32::from(word)).map(Token::Number),
+        Some(word) if hole == 0 => number_of_word(bits, *low, *high, *inverted, u32::from(word)),
         _ => None,
     }
 }

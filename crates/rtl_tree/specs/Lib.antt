@@ -2,3 +2,5 @@ pub mod Trees
 pub mod Moves
 pub mod Codes
 pub mod Names
+pub mod Same
+pub mod Substitution

@@ -8,12 +8,16 @@
 
 mod c_names;
 mod cells;
+mod copies;
 mod expressions;
 mod memory;
+mod substitution;
 mod transfers;
 
 pub use c_names::{Name, NameList, Names};
 pub use cells::{Cell, Lab};
+pub use copies::{copy, same, take};
 pub use expressions::{BinOp, Expr, UnOp, Width};
 pub use memory::NoMemory;
+pub use substitution::substitute;
 pub use transfers::{Assign, Effects, Place};

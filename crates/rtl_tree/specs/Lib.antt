@@ -4,3 +4,4 @@ pub mod Codes
 pub mod Names
 pub mod Same
 pub mod Substitution
+pub mod Likeness

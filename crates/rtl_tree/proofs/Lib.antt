@@ -1,1 +1,3 @@
 pub mod AlikeTrees
+pub mod Pairs
+pub mod TreeDepth

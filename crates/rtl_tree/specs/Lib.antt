@@ -5,3 +5,5 @@ pub mod Names
 pub mod Same
 pub mod Substitution
 pub mod Likeness
+pub mod WellFormed
+pub mod Sets

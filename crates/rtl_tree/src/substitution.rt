@@ -2,20 +2,13 @@
 
 ghost use Rattle.std.specs.Prelude.{IfOk, if◌then◌else◌, is_ok, ◌≡◌};
 ghost use Rattle.rtl_tree.specs.Trees.{tree_of};
-ghost use Rattle.rtl_tree.specs.Same.{same_cell};
 ghost use Rattle.rtl_tree.specs.Substitution.{put_for};
 
-use crate::cells::Cell;
+use crate::cells::{Cell, is_same};
 use crate::copies::copy;
 use crate::expressions::Expr;
 use crate::memory::NoMemory;
 use std::alloc::Global;
-
-fn is_same(c: Cell, d: Cell) -> bool
-    ensures { result ≡ same_cell c d }
-{
-    c == d
-}
 
 // The tree with a copy of `by` for each `c`.
 fn substituted(alloc: Global, e: &Expr, c: Cell, by: &Expr) -> Result<Expr, NoMemory>

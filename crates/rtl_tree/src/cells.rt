@@ -1,5 +1,8 @@
 //! Cells and labels.
 
+ghost use Rattle.std.specs.Prelude.{◌≡◌};
+ghost use Rattle.rtl_tree.specs.Same.{same_cell};
+
 /// What a tree reads and a transfer assigns, memory aside.
 #[derive(Clone, Copy, Debug, PartialEq, Eq)]
 pub enum Cell {
@@ -28,4 +31,11 @@ pub enum Lab {
     Block(u32),
     /// The first instruction of a function, by the function's place among the names.
     Function(u16),
+}
+
+/// Whether two cells are one.
+pub fn is_same(c: Cell, d: Cell) -> bool
+    ensures { result ≡ same_cell c d }
+{
+    c == d
 }

@@ -7,13 +7,25 @@
 #![tactic(auto)]
 
 mod c_names;
+mod cell_sets;
 mod cells;
+mod constructs;
+mod copies;
 mod expressions;
+mod forms;
+mod likeness;
 mod memory;
+mod substitution;
 mod transfers;
 
 pub use c_names::{Name, NameList, Names};
-pub use cells::{Cell, Lab};
+pub use cell_sets::CellSet;
+pub use cells::{Cell, Lab, is_same};
+pub use constructs::{Construct, are_flags_tested, is_free, is_free_below, is_root};
+pub use copies::{copy, same, take};
 pub use expressions::{BinOp, Expr, UnOp, Width};
+pub use forms::well_formed;
+pub use likeness::{alike, is_commutative};
 pub use memory::NoMemory;
+pub use substitution::substitute;
 pub use transfers::{Assign, Effects, Place};

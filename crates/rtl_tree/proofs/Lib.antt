@@ -1,0 +1,4 @@
+pub mod AlikeTrees
+pub mod Equality
+pub mod Pairs
+pub mod TreeDepth

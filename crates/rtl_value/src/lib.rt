@@ -5,8 +5,6 @@
 //! equal to it on every tree that has a value or a trap there. The laws in `specs/Laws.antt` say what a substitution does to a value.
 #![tactic(auto)]
 
-mod evaluation;
 mod state;
 
-pub use evaluation::{value};
 pub use state::{Bytes, FlagPair, Flags, LabelAt, Labels, State, Trap, Words};

@@ -1,6 +1,6 @@
 -- What a text of the first source form determines.
 use Rattle.std.proofs.Common.{◌≡◌, ◌≢◌, ℕ, zero, suc, ◌+◌, ◌^◌, ◌<◌, ◌≤◌, inl, inr, Bool, true, false, cond, List, [], ◌∷◌, ◌++◌, length, take, drop, get_or, refl, ap, sym, ◌∙◌, subst, arith, append_assoc, one-add, lit≤, lit<, ◌&&◌}
-use Rattle.std.specs.Prelude.{codes, Option, Some, None, Result, Ok, Err, MatchOption, IfOk}
+use Rattle.std.specs.Prelude.{codes, Option, Some, None, Result, Ok, Err, MatchOption, IfOk, All}
 use Rattle.std.specs.Borrow.{Bor}
 use Rattle.std.specs.Char.{is_ascii_digit}
 use Rattle.std.specs.Fmt.{decimal}
@@ -9,10 +9,11 @@ use Rattle.std.specs.Str.{all_ascii_digits, IsUtf8}
 use Rattle.std.specs.Str.Parse.{digits_value, ParsesUnsigned}
 use Rattle.std.proofs.lemmas.Fmt.{digits_decimal, decimal_injective, decimal_digit, first_decimal, IsAscii-from_digits, parse-decimal, decimal-digits_value}
 use Rattle.std.proofs.lemmas.List.{append_cancel_left, take-append-drop}
+use Rattle.std.proofs.lemmas.List.Elements.{All-cons, All-nil}
 use Rattle.std.proofs.lemmas.Str.Parse.{IsNumeralModel, numerals_by_value, tells_all_ascii_digits, parse_digits}
 use Rattle.std.proofs.lemmas.Str.{IsUtf8-from_ascii}
 use Rattle.vpo_top.specs.declared.source.SourceProgram.{SourceProgram}
-use Rattle.vpo_top.specs.Source.{IsClosing, BeginsWord, BeginsStatement, BeginsCalls, SpellsMain, SpellsSource, with_include, without_include}
+use Rattle.vpo_top.specs.Source.{IsClosing, BeginsWord, BeginsStatement, BeginsCalls, SpellsMain, SpellsSource, with_include, without_include, IsWithinLimits}
 use Rattle.vpo_top.specs.SourceReading.{IsWord, IsMark, begins_with_digit, BeginsNumber, BeginsNoCall, HasReadCalls, ReadsCalls, EndsMain}
 
 pub own : IsNumeralModel (λ ds. all_ascii_digits ds ≡ true) (digits_value 10)
@@ -331,3 +332,19 @@ pub too_many : (arguments text body rest : List ℕ) (most : ℕ) (p : SourcePro
 too_many arguments text body rest most p opens calls many s =
     let r = found_reads arguments text body rest most p opens calls s in
     omega (arith, r.few)
+
+arguments_in_range : (ns : List ℕ) (text rest : List ℕ) → BeginsCalls ns text rest → All (λ n. n ≤ 32767) ns
+arguments_in_range [] text rest calls = All-nil (λ n. n ≤ 32767)
+arguments_in_range (n ∷ ns) text rest calls =
+    All-cons (λ m. m ≤ 32767) n ns calls.1.in_range (arguments_in_range ns calls.0 rest calls.2)
+
+main_within : (most : ℕ) (text : List ℕ) (p : SourceProgram) → most ≤ 1000 → SpellsMain most text p → IsWithinLimits p
+main_within most text p limit s = record {
+  few = omega (arith, s.few);
+  arguments = arguments_in_range p.calls s.body s.ending s.calls;
+  status = s.returns.in_range;
+}
+
+pub source_within : (text : List ℕ) (p : SourceProgram) → SpellsSource text p → IsWithinLimits p
+source_within text p (with_include rest is s) = main_within 1000 rest p (lit≤ tt) s
+source_within text p (without_include s) = main_within 0 text p (lit≤ tt) s

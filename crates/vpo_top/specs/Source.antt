@@ -1,7 +1,7 @@
 -- The first C sources: calls of `putchar` with numbers, and a return of a number.
 -- A line feed may follow the `{` of `main`, each `;` and the last `}`, and ends the include line:
 -- here it stands before each call, before the return, before the closing brace, and at the end.
-use Rattle.std.specs.Prelude.{◌≡◌, ℕ, ◌≤◌, ◌⊎◌, List, [], ◌∷◌, ◌++◌, length, codes}
+use Rattle.std.specs.Prelude.{◌≡◌, ℕ, ◌≤◌, ◌⊎◌, List, [], ◌∷◌, ◌++◌, length, codes, All}
 use Rattle.std.specs.Fmt.{decimal}
 use Rattle.vpo_top.specs.declared.source.SourceProgram.{SourceProgram}
 
@@ -51,3 +51,12 @@ pub data SpellsSource (text : List ℕ) (program : SourceProgram) : Type 0 where
 -- at most one program spells a text
 abbrev pub AtMostOneProgram : Type 0
 AtMostOneProgram = (text : List ℕ) (p q : SourceProgram) → SpellsSource text p → SpellsSource text q → p ≡ q
+
+-- at most 1,000 calls, and no number above 32767
+pub record IsWithinLimits (program : SourceProgram) : Type 0 where
+  pub few : length program.calls ≤ 1000
+  pub arguments : All (λ n. n ≤ 32767) program.calls
+  pub status : program.status ≤ 32767
+
+abbrev pub SpelledAreWithinLimits : Type 0
+SpelledAreWithinLimits = (text : List ℕ) (p : SourceProgram) → SpellsSource text p → IsWithinLimits p

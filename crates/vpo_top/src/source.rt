@@ -1,11 +1,11 @@
 //! The reading of the first C sources: an include line, calls of `putchar` with numbers, a return.
 
-ghost use Rattle.std.specs.Prelude.{◌≡◌, ◌≢◌, ℕ, ◌≤◌, List, [], ◌∷◌, ◌++◌, IfOk, IsErrOf, MatchOption, OnErr, IsTrue, ◌↔◌, ◌<◌, length, slice_index};
+ghost use Rattle.std.specs.Prelude.{◌≡◌, ◌≢◌, ℕ, ◌≤◌, List, ◌++◌, IfOk, IsErrOf, MatchOption, IsTrue, ◌↔◌, ◌<◌, length, slice_index};
 ghost use Rattle.std.specs.Char.{is_ascii_digit};
 ghost use Rattle.std.specs.List.{prefix_len};
 ghost use Rattle.std.specs.Fmt.{decimal};
 ghost use Rattle.std.specs.Str.{all_ascii_digits};
-ghost use Rattle.vpo_top.specs.Source.{IsBreak, IsClosing, BeginsWord, BeginsStatement, BeginsCalls, SpellsMain, SpellsSource, AtMostOneProgram};
+ghost use Rattle.vpo_top.specs.Source.{IsClosing, BeginsWord, BeginsStatement, SpellsMain, SpellsSource, AtMostOneProgram, SpelledAreWithinLimits};
 ghost use Rattle.vpo_top.specs.SourceReading.{IsWord, IsMark, BeginsNumber, ReadsCalls, EndsMain};
 
 use sqlite_items::Items;
@@ -59,6 +59,11 @@ pub fn read_source(alloc: Global, text: &[u8]) -> Result<SourceProgram, SourceFa
 /// A text spells one program at most.
 pub fn at_most_one_program()
     ensures { AtMostOneProgram }
+{}
+
+/// No text spells a number or a count of calls past its limit.
+pub fn spelled_are_within_limits()
+    ensures { SpelledAreWithinLimits }
 {}
 
 /// The definition of `main`, with at most so many calls.

@@ -5,3 +5,4 @@ mod assembly;
 mod report;
 mod request;
 pub mod source;
+pub mod source_run;

@@ -2,3 +2,4 @@ mod Reports
 mod Lines
 pub mod SourceText
 pub mod SourceRunLaws
+mod Outcomes

@@ -1,9 +1,12 @@
 pub mod Request
 pub mod FirstDescription
 pub mod Assembly
+pub mod MachineRun
 pub mod Messages
 pub mod Spacing
 pub mod Compiled
+pub mod Headline
+pub mod Judgement
 pub mod Source
 pub mod SourceReading
 pub mod SourceRun

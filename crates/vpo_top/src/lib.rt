@@ -2,7 +2,11 @@
 #![tactic(auto)]
 
 mod assembly;
+mod description;
 mod report;
 mod request;
 pub mod source;
 pub mod source_run;
+mod top;
+
+pub use top::vpo;

@@ -1,6 +1,6 @@
 //! The top call: all that the program does.
 
-ghost use Rattle.std.specs.Prelude.{◌≡◌, ◌≢◌, ◌↔◌, ◌≤◌, ℕ, List, None, length, IfOk, IfErr, IsErrOf, ◌⊎◌};
+ghost use Rattle.std.specs.Prelude.{◌≡◌, ◌≢◌, ◌↔◌, ◌<◌, ◌≤◌, ℕ, List, None, length, IfOk, IfErr, IsErrOf, ◌⊎◌};
 ghost use Rattle.rtl_word.specs.Words.{IsWordSize};
 ghost use Rattle.vp_io.specs.Files.{OfFile, CountsOnly, RoseBy};
 ghost use Rattle.vpo_top.specs.Request.{request_of, bytes_of_words, ForCompilation};
@@ -124,7 +124,10 @@ fn compile<F: Files>(alloc: Global, files: &mut F, description: &str, source: &s
     ensures files_kept { F.files files.new ≡ F.files files.old }
 {
     let machine = read_machine(alloc, files, description)?;
-    let program = read_program(alloc, files, source)?;
+    let program = match read_program(alloc, files, source) {
+        Ok(program) => program,
+        Err(outcome) => return Err(outcome),
+    };
     match write_assembly(alloc, &machine, &program) {
         Ok(text) => Ok(text),
         Err(_) => Err(Outcome::NoMemory),

@@ -4,5 +4,9 @@ pub mod Assembly
 pub mod Messages
 pub mod Source
 pub mod SourceReading
+pub mod SourceRun
 pub mod Spacing
 pub mod Compiled
+pub mod MachineRun
+pub mod Headline
+pub mod Theorem

@@ -2,3 +2,12 @@ mod Reports
 mod Lines
 pub mod SourceText
 pub mod SourceRunLaws
+pub mod HoleNumbers
+pub mod RowTokens
+pub mod NoLineFeed
+pub mod TextLines
+pub mod Turns
+pub mod MachinePrints
+pub mod MachineEnds
+pub mod InstructionLines
+pub mod CompiledTo

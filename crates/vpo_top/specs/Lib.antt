@@ -8,5 +8,6 @@ pub mod SourceRun
 pub mod Spacing
 pub mod Compiled
 pub mod MachineRun
+pub mod Judgement
 pub mod Headline
 pub mod Theorem

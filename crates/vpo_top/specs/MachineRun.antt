@@ -1,5 +1,5 @@
 -- What a program of the described machine does.
-use Rattle.std.specs.Prelude.{ℕ, suc, ◌%◌, List, [], ◌∷◌, ◌++◌, slice_get, Option, Some, None, Result, Ok, Err}
+use Rattle.std.specs.Prelude.{ℕ, suc, ◌%◌, true, List, [], ◌∷◌, ◌++◌, slice_get, Option, Some, None, Result, Ok, Err}
 use Rattle.behaviour.specs.Behaviour.{Trapped, Wild as WildRun, Behaviour}
 use Rattle.behaviour.specs.Run.{Run}
 use Rattle.behaviour.specs.Steps.{Move as Turn, Goes, Stops, Fails, run_by}

@@ -1,5 +1,5 @@
 -- Each description and each source that are read have a text of the described machine that does what the source does.
-use Rattle.std.proofs.Common.{◌≡◌, ℕ, true, ◌%◌, ◌≤◌, ◌⊎◌, List, [], ◌∷◌, ◌++◌, map, refl, sym, ap, ◌∙◌, subst, arith}
+use Rattle.std.proofs.Common.{ℕ, ◌%◌, ◌≤◌, List, [], ◌∷◌, ◌++◌, map, refl, sym, subst}
 use Rattle.std.proofs.lemmas.List.Elements.{All-head, All-tail, All-nil, All-cons}
 use Rattle.std.proofs.lemmas.List.Sums.{AllPass-from_list_all}
 use Rattle.std.specs.List.{All}
@@ -15,7 +15,7 @@ use Rattle.vpo_top.specs.declared.source.SourceProgram.{SourceProgram}
 use Rattle.vpo_top.specs.FirstDescription.{FirstForm, RowTexts, SpellsForm, IsDescription, description_of}
 use Rattle.vpo_top.specs.Source.{SpellsSource, IsWithinLimits}
 use Rattle.vpo_top.specs.SourceRun.{source_run}
-use Rattle.vpo_top.specs.Assembly.{IsText, IsLines, BeginsText, one_line, begin}
+use Rattle.vpo_top.specs.Assembly.{IsText, IsLines, BeginsText}
 use Rattle.vpo_top.specs.MachineRun.{machine_run}
 use Rattle.vpo_top.specs.Compiled.{set_to, put, finish, call_instructions, return_instructions, instructions_of, instruction_lines, compiled_text}
 use Rattle.vpo_top.specs.Headline.{IsCompiledTo}
@@ -23,7 +23,7 @@ use Rattle.vpo_top.proofs.SourceText.{source_within}
 use Rattle.vpo_top.proofs.SourceRunLaws.{source_run_runs}
 use Rattle.vpo_top.proofs.RowTokens.{spelled_tokens}
 use Rattle.vpo_top.proofs.NoLineFeed.{IsNoFeed, token_without}
-use Rattle.vpo_top.proofs.TextLines.{HasLine, HaveLines, none, more, TextLines, text_lines}
+use Rattle.vpo_top.proofs.TextLines.{HaveLines, none, more, TextLines, text_lines}
 use Rattle.vpo_top.proofs.InstructionLines.{HasLiterals, set_line, put_line, end_line}
 use Rattle.vpo_top.proofs.MachinePrints.{machine_run_runs}
 use Rattle.vpo_top.proofs.MachineEnds.{machine_ends}
@@ -46,7 +46,7 @@ call_lines f l [] status hs h = return_lines f l status h
 call_lines f l (n ∷ ns) status hs h =
     let rest : List Instance = flat_map call_instructions ns ++ return_instructions status in
     more (set_to n) (put ∷ rest) (set_line f l n (All-head (λ m. m ≤ 32767) n ns hs))
-      (more put rest (put_line f l) (call_lines f l ns status (All-tail (λ m. m ≤ 32767) n ns hs) h))
+    (more put rest (put_line f l) (call_lines f l ns status (All-tail (λ m. m ≤ 32767) n ns hs) h))
 
 -- the line `.text`
 
@@ -74,7 +74,7 @@ pub runs_alike : (f : FirstForm) (p : SourceProgram) (input : List ℕ) → Same
 runs_alike f p input =
     let m = machine_ends f p input in
     ended_same (source_run p input) (machine_run (description_of f) (instructions_of p) input) (source_run_runs p input) (machine_run_runs (description_of f) (instructions_of p) input)
-      1 m.0 (map (λ n. n % 256) p.calls) (p.status % 256) refl m.1
+    1 m.0 (map (λ n. n % 256) p.calls) (p.status % 256) refl m.1
 
 form_compiles : (description source : List ℕ) (f : FirstForm) (t : RowTexts) (p : SourceProgram) → SpellsForm description f t → SpellsSource source p → IsCompiledTo description source (compiled_text (description_of f) p)
 form_compiles description source f t p s k = record {

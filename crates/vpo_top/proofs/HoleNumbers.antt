@@ -1,7 +1,7 @@
 -- What the number hole of a word prints.
 use Rattle.std.proofs.Common.{◌≡◌, ℕ, ◌-◌, ◌^◌, ◌≤◌, ◌<◌, ◌⊎◌, inl, inr, ℤ, pos, negsuc, Bool, true, false, cond, Option, Some, None, ap, subst, sym, refl, arith}
-use Rattle.std.proofs.lemmas.Bool.{le-leb, lt-ltb}
-use Rattle.std.specs.Prelude.{nat_lt, is_some}
+use Rattle.std.proofs.lemmas.Bool.{le-leb}
+use Rattle.std.specs.Prelude.{is_some}
 use Rattle.md_rows.specs.Fits.{within, printed, below_zero}
 
 -- a word has 15 bits at least below its sign

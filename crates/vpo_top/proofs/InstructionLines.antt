@@ -1,23 +1,22 @@
 -- Each compiled line is one instruction of the machine, and no other.
-use Rattle.std.proofs.Common.{◌≡◌, ◌≢◌, ℕ, ◌^◌, ◌<◌, ◌≤◌, ◌⊎◌, ℤ, pos, true, ◌&&◌, List, [], ◌∷◌, ◌++◌, Option, Some, None, refl, sym, ap, ◌∙◌, subst, arith}
+use Rattle.std.proofs.Common.{◌≡◌, ℕ, ◌^◌, ◌≤◌, ◌⊎◌, ℤ, pos, List, [], ◌∷◌, ◌++◌, Some, refl, sym, ap, ◌∙◌, subst, arith}
 use Rattle.std.proofs.lemmas.Bool.{and_from, lt-ltb}
 use Rattle.std.proofs.lemmas.List.Elements.{All-cons, All-append}
 use Rattle.std.specs.List.{All}
-use Rattle.std.specs.Prelude.{slice_get, nat_lt, is_some}
-use Rattle.asm_token.specs.Tokens.{Token, Name, Number, IsToken, Spells, after_gap, is_blank_or_tab}
+use Rattle.std.specs.Prelude.{nat_lt, is_some}
+use Rattle.asm_token.specs.Tokens.{Token, Number, IsToken, Spells, after_gap, is_blank_or_tab}
 use Rattle.asm_token.specs.Line.{line_of}
 use Rattle.asm_token.proofs.Steps.{spelled_once, blank_or_tab_is_gap}
 use Rattle.asm_token.proofs.Lines.{line_reads_back}
-use Rattle.md_rows.specs.declared.instance.Bound.{Bound}
 use Rattle.md_rows.specs.declared.instance.Bound.TheVariants.{Num}
 use Rattle.md_rows.specs.declared.instance.Instance.{Instance}
 use Rattle.md_rows.specs.declared.row.Row.{Row}
 use Rattle.md_rows.specs.Instances.{IsInstance, AllFit, general_set, tokens_with}
-use Rattle.vpo_top.specs.FirstDescription.{FirstForm, SpellsForm, AreNumbers, HaveNames, SpellsLiterals, BeginsWith, word_hole, description_of}
-use Rattle.vpo_top.specs.Assembly.{HasTokensOf, IsLineOf}
+use Rattle.vpo_top.specs.FirstDescription.{FirstForm, HaveNames, BeginsWith, word_hole, description_of}
+use Rattle.vpo_top.specs.Assembly.{HasTokensOf}
 use Rattle.vpo_top.specs.Compiled.{set_to, put, finish, instruction_line}
 use Rattle.vpo_top.proofs.HoleNumbers.{half_word, whole_word, printed_itself}
-use Rattle.vpo_top.proofs.RowTokens.{set_row, put_row, end_row, printed_word, set_tokens, set_row_tokens, put_row_tokens, end_row_tokens, spelled_tokens, Reads, sets, puts, ends, row_reads, begins_more, names_apart, set_number}
+use Rattle.vpo_top.proofs.RowTokens.{set_row, put_row, end_row, printed_word, set_tokens, set_row_tokens, put_row_tokens, end_row_tokens, Reads, sets, puts, ends, row_reads, begins_more, names_apart, set_number}
 use Rattle.vpo_top.proofs.NoLineFeed.{line_without, IsNoFeed}
 use Rattle.vpo_top.proofs.TextLines.{HasLine}
 

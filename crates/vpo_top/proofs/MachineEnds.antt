@@ -1,15 +1,15 @@
 -- The compiled program prints each argument's low byte, and ends with that of the status.
-use Rattle.std.proofs.Common.{◌≡◌, ℕ, zero, suc, ◌+◌, ◌%◌, List, [], ◌∷◌, ◌++◌, map, Option, Some, None, refl, sym, ap, ◌∙◌, subst, append_assoc, arith}
+use Rattle.std.proofs.Common.{◌≡◌, ℕ, zero, suc, ◌%◌, List, [], ◌∷◌, ◌++◌, map, Some, refl, sym, ap, ◌∙◌, subst, append_assoc}
 use Rattle.std.proofs.lemmas.List.{append-nil}
 use Rattle.std.specs.Prelude.{slice_get, flat_map}
 use Rattle.behaviour.specs.Behaviour.{Behaviour, Ended}
-use Rattle.behaviour.specs.Steps.{Move as Turn, Goes, Stops, after, run_by}
+use Rattle.behaviour.specs.Steps.{Goes, Stops, after, run_by}
 use Rattle.md_rows.specs.declared.instance.Instance.{Instance}
 use Rattle.vpo_top.specs.declared.source.SourceProgram.{SourceProgram}
 use Rattle.vpo_top.specs.FirstDescription.{FirstForm, description_of}
 use Rattle.vpo_top.specs.Compiled.{set_to, put, finish, call_instructions, return_instructions, instructions_of}
 use Rattle.vpo_top.specs.MachineRun.{MachineState, turn, start, machine_run}
-use Rattle.vpo_top.proofs.Turns.{GoesOn, set_turn, put_turn, end_turn}
+use Rattle.vpo_top.proofs.Turns.{set_turn, put_turn, end_turn}
 
 -- from the place k on, these instructions follow
 data From : ℕ → List Instance → List Instance → Type 0 where
@@ -45,7 +45,7 @@ module _ (f : FirstForm) (program : List Instance) where
       let t : MachineState = record { place = suc s.place; view = g.view; printed = s.printed } in
       let next : From (suc s.place) program (finish ∷ []) = second s.place program (return_instructions status) (set_to status) (finish ∷ []) at refl in
       one_turn s t s.printed (status % 256) g.goes
-        (last_turn t s.printed (status % 256) (end_turn f program t status (first (suc s.place) program (finish ∷ []) finish [] next refl) g.holds))
+      (last_turn t s.printed (status % 256) (end_turn f program t status (first (suc s.place) program (finish ∷ []) finish [] next refl) g.holds))
 
   abbrev following : List ℕ → ℕ → List Instance
   following ns status = flat_map call_instructions ns ++ return_instructions status

@@ -1,10 +1,10 @@
 -- No turn of the machine takes back what was printed.
-use Rattle.std.proofs.Common.{◌≡◌, ℕ, List, [], ◌∷◌, ◌++◌, Option, Some, None, refl}
+use Rattle.std.proofs.Common.{◌≡◌, ℕ, List, ◌++◌, Option, Some, None, refl}
 use Rattle.std.specs.Prelude.{slice_get, Result, Ok, Err}
 use Rattle.behaviour.specs.Behaviour.{IsPrefix}
 use Rattle.behaviour.specs.Run.{IsRun}
 use Rattle.behaviour.specs.Steps.{Move as Turn, OnlyPrints, printed_after}
-use Rattle.behaviour.proofs.Prefix.{prefix_refl, prefix_append}
+use Rattle.behaviour.proofs.Prefix.{prefix_refl}
 use Rattle.behaviour.proofs.Stepping.{run_by_is_run}
 use Rattle.rtl_effect.specs.Views.{View, Stop, Traps, Wild}
 use Rattle.rtl_effect.specs.Effects.{Done, effect}

@@ -1,5 +1,5 @@
 -- No line feed stands in the line of an instruction.
-use Rattle.std.proofs.Common.{◌≡◌, ◌≢◌, ℕ, ◌^◌, ◌<◌, ℤ, pos, negsuc, suc, Bool, true, false, cond, ◌&&◌, List, [], ◌∷◌, ◌++◌, refl, sym, ap, ◌∙◌, arith}
+use Rattle.std.proofs.Common.{◌≡◌, ◌≢◌, ℕ, ℤ, pos, negsuc, suc, Bool, true, false, cond, ◌&&◌, List, [], ◌∷◌, ◌++◌, refl, ap, arith}
 use Rattle.std.proofs.lemmas.Bool.{and_parts}
 use Rattle.std.proofs.lemmas.Fmt.{digits_decimal}
 use Rattle.std.proofs.lemmas.List.Elements.{All-nil, All-cons, All-append, All-head, All-tail}
@@ -21,7 +21,7 @@ names_without : (bs : List ℕ) → AllPass is_name_byte bs → All IsNoFeed bs
 names_without [] h = All-nil IsNoFeed
 names_without (b ∷ bs) h =
     All-cons IsNoFeed b bs (fails_at_feed is_name_byte b refl (All-head (λ c. is_name_byte c ≡ true) b bs h))
-      (names_without bs (All-tail (λ c. is_name_byte c ≡ true) b bs h))
+    (names_without bs (All-tail (λ c. is_name_byte c ≡ true) b bs h))
 
 digits_without : (ds : List ℕ) → all_ascii_digits ds ≡ true → All IsNoFeed ds
 digits_without [] h = All-nil IsNoFeed
@@ -47,7 +47,7 @@ after_without : (t : Token) (ts : List Token) → All IsToken ts → All IsNoFee
 after_without t [] h = All-nil IsNoFeed
 after_without t (u ∷ us) h =
     All-append IsNoFeed (space_between t u) (spelling u ++ after_token u us) (space_by (is_word t && is_word u))
-      (All-append IsNoFeed (spelling u) (after_token u us) (token_without u (All-head IsToken u us h)) (after_without u us (All-tail IsToken u us h)))
+    (All-append IsNoFeed (spelling u) (after_token u us) (token_without u (All-head IsToken u us h)) (after_without u us (All-tail IsToken u us h)))
 
 -- the line of an instruction is one line
 pub line_without : (ts : List Token) → All IsToken ts → All IsNoFeed (line_of ts)
@@ -56,5 +56,5 @@ line_without (t ∷ []) h = token_without t (All-head IsToken t [] h)
 line_without (t ∷ u ∷ us) h =
     let rest = All-tail IsToken t (u ∷ us) h in
     All-append IsNoFeed (spelling t) (32 ∷ (spelling u ++ after_token u us)) (token_without t (All-head IsToken t (u ∷ us) h))
-      (All-cons IsNoFeed 32 (spelling u ++ after_token u us) (λ e. cc)
-        (All-append IsNoFeed (spelling u) (after_token u us) (token_without u (All-head IsToken u us rest)) (after_without u us (All-tail IsToken u us rest))))
+    (All-cons IsNoFeed 32 (spelling u ++ after_token u us) (λ e. cc)
+    (All-append IsNoFeed (spelling u) (after_token u us) (token_without u (All-head IsToken u us rest)) (after_without u us (All-tail IsToken u us rest))))

@@ -1,5 +1,5 @@
 -- The tokens of the three rows of a description, and which instruction has them.
-use Rattle.std.proofs.Common.{◌≡◌, ◌≢◌, ℕ, zero, suc, ◌-◌, ◌^◌, ℤ, pos, negsuc, Bool, true, false, ◌&&◌, List, [], ◌∷◌, ◌++◌, map, Option, Some, None, refl, sym, ap, ◌∙◌, subst, arith}
+use Rattle.std.proofs.Common.{◌≡◌, ◌≢◌, ℕ, zero, suc, ◌-◌, ◌^◌, ℤ, pos, negsuc, Bool, false, List, [], ◌∷◌, ◌++◌, map, Option, Some, refl, ap, ◌∙◌, subst}
 use Rattle.std.proofs.lemmas.Bool.{and_parts}
 use Rattle.std.proofs.lemmas.List.{append_cancel_left}
 use Rattle.std.proofs.lemmas.List.Elements.{All-nil, All-cons}
@@ -22,7 +22,7 @@ use Rattle.vpo_top.proofs.HoleNumbers.{some_of, printed_tells}
 abbrev pub set_row : FirstForm → Row
 set_row f =
     row_of 8 (map piece_of f.before_hole ++ HolePiece 0 ∷ map piece_of f.after_hole) (word_hole f.word ∷ [])
-      (record { to = ToCell (Hard f.register); value = AnyNumber 0 })
+    (record { to = ToCell (Hard f.register); value = AnyNumber 0 })
 
 abbrev pub put_row : FirstForm → Row
 put_row f = row_of 9 (map piece_of f.put) [] (record { to = ToCell Output; value = Read (Hard f.register) })
@@ -44,7 +44,7 @@ literal_tokens w holes b (Number z ∷ ts) = ap (λ us. Number z ∷ us) (litera
 literal_tokens w holes b (Mark c ∷ ts) = ap (λ us. Mark c ∷ us) (literal_tokens w holes b ts)
 
 tokens_round_hole : (w : ℕ) (holes : List Hole) (b : List Bound) (ts us : List Token)
-  → filter_map (piece_token w holes b) (map piece_of ts ++ HolePiece 0 ∷ map piece_of us) ≡ ts ++ cons_option (hole_token w (slice_get holes 0) (slice_get b 0)) us
+    → filter_map (piece_token w holes b) (map piece_of ts ++ HolePiece 0 ∷ map piece_of us) ≡ ts ++ cons_option (hole_token w (slice_get holes 0) (slice_get b 0)) us
 tokens_round_hole w holes b [] us = ap (cons_option (hole_token w (slice_get holes 0) (slice_get b 0))) (literal_tokens w holes b us)
 tokens_round_hole w holes b (Name x ∷ ts) us = ap (λ vs. Name x ∷ vs) (tokens_round_hole w holes b ts us)
 tokens_round_hole w holes b (Number z ∷ ts) us = ap (λ vs. Number z ∷ vs) (tokens_round_hole w holes b ts us)
@@ -93,12 +93,12 @@ end_reads f g [] h = ends refl refl (end_row_tokens f)
 end_reads f g (x ∷ xs) h = absurd h
 
 reads_at : (f : FirstForm) (g r : ℕ) (b : List Bound) (known row : Row) → known ≡ row
-  → (AllFit f.word g known.holes b → Reads f r b (tokens_with f.word known b)) → AllFit f.word g row.holes b → Reads f r b (tokens_with f.word row b)
+    → (AllFit f.word g known.holes b → Reads f r b (tokens_with f.word known b)) → AllFit f.word g row.holes b → Reads f r b (tokens_with f.word row b)
 reads_at f g r b known row e here = subst (λ x. AllFit f.word g x.holes b → Reads f r b (tokens_with f.word x b)) e here
 
 -- a row of the description, by its number
 pub row_reads : (f : FirstForm) (g r : ℕ) (b : List Bound) (row : Row)
-  → slice_get (set_row f ∷ put_row f ∷ end_row f ∷ []) r ≡ Some row → AllFit f.word g row.holes b → Reads f r b (tokens_with f.word row b)
+    → slice_get (set_row f ∷ put_row f ∷ end_row f ∷ []) r ≡ Some row → AllFit f.word g row.holes b → Reads f r b (tokens_with f.word row b)
 row_reads f g zero b row e h = reads_at f g 0 b (set_row f) row (cc) (set_reads f g b) h
 row_reads f g (suc zero) b row e h = reads_at f g 1 b (put_row f) row (cc) (put_reads f g b) h
 row_reads f g (suc (suc zero)) b row e h = reads_at f g 2 b (end_row f) row (cc) (end_reads f g b) h

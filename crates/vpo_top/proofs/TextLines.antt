@@ -1,13 +1,9 @@
 -- The lines of a text, when each instruction has a line of its own.
-use Rattle.std.proofs.Common.{◌≡◌, ◌≢◌, ℕ, ◌<◌, List, [], ◌∷◌, ◌++◌, length, refl, sym, ap, ◌∙◌, subst, append_assoc, arith}
-use Rattle.std.proofs.lemmas.List.Elements.{All-head, All-tail}
+use Rattle.std.proofs.Common.{◌≡◌, ◌≢◌, ℕ, List, [], ◌∷◌, ◌++◌, sym, ap, ◌∙◌, subst, append_assoc}
 use Rattle.std.specs.List.{All}
-use Rattle.std.specs.Prelude.{codes, flat_map}
 use Rattle.md_rows.specs.declared.description.RawDescription.{RawDescription}
 use Rattle.md_rows.specs.declared.instance.Instance.{Instance}
-use Rattle.asm_token.specs.Tokens.{Name, Spells, at_end, is_blank_or_tab}
-use Rattle.asm_token.proofs.Lines.{line_reads_back}
-use Rattle.vpo_top.specs.Assembly.{IsLines, no_line, one_line as one_cut, IsLineOf, AreLinesOf, no_line as none_read, one_line, BeginsText, begin, IsText}
+use Rattle.vpo_top.specs.Assembly.{IsLines, IsLineOf, AreLinesOf}
 use Rattle.vpo_top.specs.Compiled.{instruction_line, instruction_lines}
 
 -- an instruction and its line

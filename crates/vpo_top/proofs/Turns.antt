@@ -1,9 +1,9 @@
 -- What the three instructions do to the machine.
-use Rattle.std.proofs.Common.{◌≡◌, ℕ, suc, ◌%◌, Bool, true, false, cond, eqb, List, [], ◌∷◌, ◌++◌, Option, Some, None, refl, sym, ap, ◌∙◌, arith}
+use Rattle.std.proofs.Common.{◌≡◌, ℕ, suc, ◌%◌, true, eqb, List, [], ◌∷◌, ◌++◌, Some, None, refl, ap, ◌∙◌, arith}
 use Rattle.std.proofs.lemmas.Bool.Decides.{nat_tests}
 use Rattle.std.proofs.lemmas.List.{append-nil}
 use Rattle.std.specs.Prelude.{slice_get}
-use Rattle.behaviour.specs.Steps.{Move as Turn, Goes, Stops, Fails}
+use Rattle.behaviour.specs.Steps.{Move as Turn, Goes, Stops}
 use Rattle.rtl_tree.specs.declared.cells.Cell.TheVariants.{Hard}
 use Rattle.rtl_effect.specs.Views.{View}
 use Rattle.rtl_effect.specs.Effects.{view_after}

@@ -6,8 +6,8 @@ pub mod HoleNumbers
 pub mod RowTokens
 pub mod NoLineFeed
 pub mod TextLines
+pub mod InstructionLines
 pub mod Turns
 pub mod MachinePrints
 pub mod MachineEnds
-pub mod InstructionLines
 pub mod CompiledTo

@@ -3,3 +3,12 @@ mod Lines
 pub mod SourceText
 pub mod SourceRunLaws
 mod Outcomes
+pub mod HoleNumbers
+pub mod RowTokens
+pub mod NoLineFeed
+pub mod TextLines
+pub mod InstructionLines
+pub mod Turns
+pub mod MachinePrints
+pub mod MachineEnds
+pub mod CompiledTo

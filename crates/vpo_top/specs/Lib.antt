@@ -10,3 +10,4 @@ pub mod Judgement
 pub mod Source
 pub mod SourceReading
 pub mod SourceRun
+pub mod Theorem

@@ -1,5 +1,6 @@
 -- How the refusals of the two files come together.
 use Rattle.std.proofs.Common.{◌≡◌, ◌≢◌, ◌⊎◌, ℕ, ◌≤◌, ◌<◌, List, length, Option, Some, None, refl, sym, subst, inl, inr, arith, Bool, true, false, bytes_eq, Decides}
+use Rattle.std.proofs.lemmas.Bool.Decides.{not_from_Decides}
 use Rattle.std.proofs.lemmas.Slice.Eq.{bytes_eq-Decides}
 use Rattle.vp_io.proofs.Counting.{rose_by_after}
 use Rattle.vp_io.specs.Files.{Told, OfFile, FaultCounts, CountsOnly, RoseBy}
@@ -49,7 +50,7 @@ never_falls name before now counts other = by_case (bytes_eq other name) (bytes_
   where
     by_case : (b : Bool) → Decides b (other ≡ name) → before.of other ≤ now.of other
     by_case true d = let P : List ℕ → Type 0 = λ n. before.of n ≤ now.of n in subst P (sym d) counts.of_name
-    by_case false d = omega (arith, counts.others other d)
+    by_case false d = omega (arith, counts.others other (not_from_Decides false d refl))
 
 pub program_cause : (told : Told) (description source : List ℕ) (before mid now : FaultCounts) (outcome : Outcome)
   → CountsOnly description before mid → IsRefusalOfSource outcome → (outcome ≡ ReadFault Text → RoseBy told source mid now)

@@ -49,18 +49,20 @@ never_falls : (name : List ℕ) (before now : FaultCounts) → CountsOnly name b
 never_falls name before now counts other = by_case (bytes_eq other name) (bytes_eq-Decides other name)
   where
     by_case : (b : Bool) → Decides b (other ≡ name) → before.of other ≤ now.of other
-    by_case true d = let P : List ℕ → Type 0 = λ n. before.of n ≤ now.of n in subst P (sym d) counts.of_name
-    by_case false d = omega (arith, counts.others other (not_from_Decides false d refl))
+    by_case true d = let P : List ℕ → Type 0 = λ n. before.of n ≤ now.of n in subst P (sym (d.0 refl)) counts.of_name
+    by_case false d =
+      let other_name : other ≢ name = not_from_Decides {P = other ≡ name} false d refl in omega (arith, counts.others other other_name)
 
-pub program_cause : (told : Told) (description source : List ℕ) (before mid now : FaultCounts) (outcome : Outcome)
-  → CountsOnly description before mid → IsRefusalOfSource outcome → (outcome ≡ ReadFault Text → RoseBy told source mid now)
+pub program_cause : (told told' : Told) (description source : List ℕ) (before mid now : FaultCounts) (outcome : Outcome)
+  → told' ≡ told → CountsOnly description before mid → IsRefusalOfSource outcome → (outcome ≡ ReadFault Text → RoseBy told' source mid now)
   → HasFetchCause told description source before now outcome
-program_cause told description source before mid now (ReadFault Text) counts refusal cause =
-  rose_by_after told source before mid now counts.total (never_falls description before mid counts source) (cause refl)
-program_cause told description source before mid now (ReadFault Description) counts refusal cause = absurd refusal
-program_cause told description source before mid now (ReadFault Assembly) counts refusal cause = tt
-program_cause told description source before mid now (ReadFault Input) counts refusal cause = tt
-program_cause told description source before mid now outcome counts refusal cause = tt
+program_cause told told' description source before mid now (ReadFault Text) same counts refusal cause =
+  let P : Told → Type 0 = λ t. RoseBy t source mid now in
+  rose_by_after told source before mid now counts.total (never_falls description before mid counts source) (subst P same (cause refl))
+program_cause told told' description source before mid now (ReadFault Description) same counts refusal cause = absurd refusal
+program_cause told told' description source before mid now (ReadFault Assembly) same counts refusal cause = tt
+program_cause told told' description source before mid now (ReadFault Input) same counts refusal cause = tt
+program_cause told told' description source before mid now outcome same counts refusal cause = tt
 
 -- what was read from both files is compiled
 pub compiled_of_files : (told told' : Told) (description source text : List ℕ) (d : RawDescription) (p : SourceProgram)

@@ -1,11 +1,10 @@
-use Rattle.std.proofs.Common.{ap}
 use Rattle.vpo_top.proofs.Outcomes.{program_cause, compiled_of_files}
 use Rattle.vpo_top.proofs.top.compile.Goals as goal
 
 pub returns-in-Err-clause-cause : goal.returns-in-Err-clause-cause
 returns-in-Err-clause-cause g c =
-  program_cause _ _ _ _ _ _ _ c.in_ok-machine.ensures.fetched c.in-Err.ensures.possible
-    (λ is. {! c.in-Err.ensures.cause !})
+  program_cause _ _ _ _ _ _ _ _ c.in_ok-machine.ensures.files_kept c.in_ok-machine.ensures.fetched c.in-Err.ensures.possible
+    (λ is. c.in-Err.ensures.cause (cc is))
 
 pub returns-in-Ok-write_assembly-clause-compiled : goal.returns-in-Ok-write_assembly-clause-compiled
 returns-in-Ok-write_assembly-clause-compiled g c =

@@ -1,11 +1,11 @@
 //! The top call: all that the program does.
 
-ghost use Rattle.std.specs.Prelude.{◌≡◌, ◌≢◌, ◌↔◌, ◌<◌, ◌≤◌, ℕ, List, None, length, IfOk, IfErr, IsErrOf, ◌⊎◌};
+ghost use Rattle.std.specs.Prelude.{◌≡◌, ◌≢◌, ◌↔◌, ◌<◌, ◌≤◌, ℕ, List, None, length, IfOk, IfErr, IsErrOf, OnOk, ◌⊎◌};
 ghost use Rattle.rtl_word.specs.Words.{IsWordSize};
 ghost use Rattle.vp_io.specs.Files.{OfFile, CountsOnly, RoseBy};
 ghost use Rattle.vpo_top.specs.Request.{request_of, bytes_of_words, ForCompilation};
 ghost use Rattle.vpo_top.specs.Messages.{IsReported};
-ghost use Rattle.vpo_top.specs.Judgement.{byte_limit, IsDescribedBy, IsSpelledBy, IsFetchRefusal, IsRefusalOfDescription, JudgesDescription, IsRefusalOfSource, JudgesSource, Judges, HasFetchCause, HasOutsideCause, IsRefusal, IsOfCompilation, OfFiles, CountsOnlyOf};
+ghost use Rattle.vpo_top.specs.Judgement.{byte_limit, IsDescribedBy, IsSpelledBy, IsFetchRefusal, IsAccepted, IsCompiled, IsRefusalOfDescription, JudgesDescription, IsRefusalOfSource, JudgesSource, Judges, HasFetchCause, HasOutsideCause, IsRefusal, IsOfCompilation, OfFiles, CountsOnlyOf};
 ghost use Rattle.vpo_top.specs.Headline.{IsCompiledTo, IsWritten};
 
 use md_rows::RawDescription;
@@ -116,6 +116,8 @@ fn compile_to<F: Files, K: Sink>(alloc: Global, files: &mut F, description: &str
 fn compile<F: Files>(alloc: Global, files: &mut F, description: &str, source: &str) -> Result<Vec<u8>, Outcome>
     ensures compiled { OfFiles (F.files files.old) description.now source.now (λ machine_text source_text.
         IfOk result (λ text. IsCompiledTo machine_text source_text text.items)) }
+    ensures accepted { OfFiles (F.files files.old) description.now source.now (λ machine_text source_text.
+        OnOk result (IsAccepted machine_text × IsCompiled source_text)) }
     ensures judged { OfFiles (F.files files.old) description.now source.now (λ machine_text source_text.
         IfErr result (λ outcome. Judges machine_text source_text outcome)) }
     ensures possible { IfErr result (λ outcome. IsRefusalOfDescription outcome ⊎ IsRefusalOfSource outcome) }

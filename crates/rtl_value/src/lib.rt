@@ -1,0 +1,12 @@
+//! The values of transfer trees.
+//!
+//! A [`State`] holds what a tree may read, and [`value`] evaluates a tree in it: the result is a word or the first trap, the left
+//! operand before the right, a bad address before a misaligned one. The definition is `value_of` in `specs/Values.antt`, and the call is
+//! equal to it on every tree that has a value or a trap there. The laws in `specs/Laws.antt` say what a substitution does to a value.
+#![tactic(auto)]
+
+mod evaluation;
+mod state;
+
+pub use evaluation::{value};
+pub use state::{Bytes, FlagPair, Flags, LabelAt, Labels, State, Trap, Words};

@@ -20,7 +20,7 @@ mod transfers;
 
 pub use c_names::{Name, NameList, Names};
 pub use cell_sets::CellSet;
-pub use cells::{Cell, Lab, is_same};
+pub use cells::{Cell, Lab, is_same, is_same_label};
 pub use constructs::{Construct, are_flags_tested, is_free, is_free_below, is_root};
 pub use copies::{copy, same, take};
 pub use expressions::{BinOp, Expr, UnOp, Width};

@@ -4,8 +4,8 @@ ghost use Rattle.std.specs.Prelude.{Err, IsSome, Ok, Option, Result, Some, lengt
 ghost use Rattle.rtl_tree.specs.Trees.{tree_of};
 ghost use Rattle.rtl_value.specs.Values.{IsBinaryRead, IsCellRead, IsFlagRead, IsReadable, IsSound, IsWord, IsPairOfWords, binary_of, bytes_at, cell_of, flag_test, label_of, load_of, place_of_label, test_of, unary_of, value_of};
 
-use crate::state::{FlagPair, State, Trap};
-use rtl_tree::{BinOp, Cell, Expr, Lab, UnOp, Width};
+use crate::state::{FlagPair, LabelAt, State, Trap};
+use rtl_tree::{BinOp, Cell, Expr, Lab, UnOp, Width, is_same_label};
 use rtl_word::{Rel, Word};
 
 fn cell<W: Word>(s: &State, c: Cell) -> u32
@@ -39,7 +39,7 @@ fn place(labels: &[LabelAt], l: Lab) -> Option<u32>
     ensures { result ≡ place_of_label labels.now l }
 {
     for entry in labels {
-        if entry.label == l {
+        if is_same_label(entry.label, l) {
             return Some(entry.at);
         }
     }

@@ -6,7 +6,9 @@
 #![tactic(auto)]
 
 mod evaluation;
+mod laws;
 mod state;
 
-pub use evaluation::{value};
+pub use evaluation::{binary, value};
+pub use laws::substitution_is_setting;
 pub use state::{Bytes, FlagPair, Flags, LabelAt, Labels, State, Trap, Words};

@@ -1,5 +1,5 @@
 -- The value after a substitution is the value before it where the cell is set.
-use Rattle.std.proofs.Common.{◌≡◌, ℕ, ◌<◌, Bool, true, false, List, length, slice_index, slice_set, nat_eq, Option, Some, Result, Ok, arith, refl, sym, ap, ◌∙◌}
+use Rattle.std.proofs.Common.{◌≡◌, ℕ, ◌<◌, Bool, true, false, List, length, slice_index, slice_set, nat_eq, Option, Some, [], ◌∷◌, zero, suc, Result, Ok, arith, refl, sym, ap, ◌∙◌}
 use Rattle.std.specs.Prelude.{if◌then◌else◌, slice_get, ◌==◌}
 use Rattle.std.proofs.lemmas.Grind.{common_steps}
 use Rattle.std.proofs.lemmas.Bool.Decides.{nat_tests}
@@ -91,8 +91,16 @@ sets_cell w s _ by v h e = absurd h
 pub put-sets_cell : (w : ℕ) (c : Cell) (by t : Tree) (s : State) (v : ℕ) → IsVariable s c → value_of w by s ≡ Ok v → IsWordTree t → value_of w (put_for c by t) s ≡ value_of w t (set_cell s c v)
 put-sets_cell w c by t s v h e k = put-value w c by t s (set_cell s c v) (sets_cell w s c by v h e) k
 
+next_same : (m n : ℕ) → (m == n) ≡ (suc m == suc n)
+next_same m n = grind (arith, nat_tests)
+
 get_set : (xs : List (Option FlagPair)) (n m : ℕ) (p : Option FlagPair) → n < length xs → slice_get (slice_set xs n p) m ≡ (if m == n then Some p else slice_get xs m)
-get_set xs n m p h = grind (arith, common_steps, nat_tests)
+get_set [] n m p h = absurd (omega arith)
+get_set (x ∷ xs) zero zero p h = refl
+get_set (x ∷ xs) zero (suc m) p h = let other : (suc m == 0) ≡ false = grind (arith, nat_tests) in sym (ap (λ b. if b then Some p else slice_get xs m) other)
+get_set (x ∷ xs) (suc n) zero p h = let other : (0 == suc n) ≡ false = grind (arith, nat_tests) in sym (ap (λ b. if b then Some p else Some x) other)
+get_set (x ∷ xs) (suc n) (suc m) p h =
+    get_set xs n m p (omega arith) ∙ ap (λ b. if b then Some p else slice_get xs m) (next_same m n)
 
 no_flag : (w n : ℕ) (by : Tree) (s : State) (d : Cell) → IsWordCell d → value_of w (if same_cell d (Flag n) then by else Read d) s ≡ Ok (cell_of w s d)
 no_flag w n by s (Hard m) k = refl

@@ -145,10 +145,10 @@ abbrev pub mark_after : ℕ → Option Tree → View → Mark → Mark
 mark_after w (Some t) v old = plain_mark (marked w t v)
 mark_after w None v old = old
 
--- an assignment to a cell that only tells the outside
+-- the byte that goes to the output, and the status: the value modulo 256
 abbrev pub event : ℕ → Option Tree → View → Result (Option ℕ) Stop
 event w None v = Ok None
-event w (Some t) v = bind (valued w t v) (λ n. Ok (Some n))
+event w (Some t) v = bind (valued w t v) (λ n. Ok (Some (n % 256)))
 
 abbrev pub went : ℕ → Option Tree → View → Result (Option ℕ) Stop
 went w None v = Ok (v.cells Pc)

@@ -1,2 +1,4 @@
 pub mod Views
 pub mod Effects
+pub mod Agree
+pub mod Laws

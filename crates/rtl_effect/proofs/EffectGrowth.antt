@@ -1,12 +1,12 @@
 -- A transfer made on two views that agree gives views that agree.
-use Rattle.std.proofs.Common.{◌≡◌, ℕ, zero, suc, ◌+◌, ◌-◌, ◌*◌, ◌/◌, ◌%◌, ◌^◌, Bool, true, false, cond, List, [], ◌∷◌, nat_lt, Option, Some, None, Result, Ok, Err, refl, sym, ap, ◌∙◌, subst}
+use Rattle.std.proofs.Common.{◌≡◌, ℕ, zero, suc, ◌+◌, ◌-◌, ◌%◌, Bool, true, false, cond, List, [], ◌∷◌, nat_lt, Option, Some, None, Result, Ok, refl, ap, subst}
 use Rattle.std.specs.Prelude.{nat_le, ◌&&◌}
-use Rattle.rtl_tree.specs.Trees.{Tree, Number, Symbol, CodeLabel, Read, Load, Unary, Binary, NoPair, AnyNumber, AnyName}
+use Rattle.rtl_tree.specs.Trees.{Tree, CodeLabel, Binary, NoPair}
 use Rattle.rtl_tree.specs.declared.cells.Cell.{Cell}
 use Rattle.rtl_tree.specs.declared.cells.Cell.TheVariants.{Hard, Temp, Flag, Pc, Input, Output, Halt, Hole}
 use Rattle.rtl_tree.specs.declared.expressions.Width.{Width}
 use Rattle.rtl_tree.specs.declared.expressions.BinOp.TheVariants.{Pair, When}
-use Rattle.rtl_effect.specs.Views.{Stop, Traps, Wild, Mark, Holds, Gone, View, Seen, bind, width_of, touched, seen}
+use Rattle.rtl_effect.specs.Views.{Stop, Mark, View, Seen, width_of, seen}
 use Rattle.rtl_tree.specs.Moves.{Goal, ToCell, ToMemory, Move}
 use Rattle.rtl_tree.specs.Same.{same_cell}
 use Rattle.rtl_effect.specs.Effects.{assigned_by, assigned, Storing, storing_by, storing, takes, needed, mark_of_two, marked, target, chosen, aimed, jump, valued, Fine, done, tested_cell, place_of, tested_by, tested, Patch, patch_of, byte_of, patched, plain, plain_mark, cell_after, mark_after, event, went, input_after, next_in, cells_after, Done, view_after, effect}

@@ -1,21 +1,19 @@
 -- What is seen in an older view is seen in a newer one that agrees with it.
-use Rattle.std.proofs.Common.{◌≡◌, ℕ, zero, suc, ◌+◌, ◌*◌, ◌/◌, ◌%◌, Bool, true, false, cond, Option, Some, None, Result, Ok, Err, refl, sym, ap, ◌∙◌, subst, arith}
+use Rattle.std.proofs.Common.{◌≡◌, ℕ, zero, suc, ◌+◌, ◌%◌, Bool, true, false, cond, Option, Some, None, Result, Ok, Err, refl, sym, subst, arith}
 use Rattle.std.specs.Prelude.{nat_le, ◌==◌}
 use Rattle.rtl_tree.specs.Trees.{Tree, Number, Symbol, CodeLabel, Read, Load, Unary, Binary, NoPair, AnyNumber, AnyName}
 use Rattle.rtl_tree.specs.declared.cells.Cell.{Cell}
-use Rattle.rtl_tree.specs.declared.cells.Cell.TheVariants.{Hard, Temp, Flag, Pc, Input, Output, Halt, Hole}
-use Rattle.rtl_tree.specs.declared.expressions.Width.{Width}
+use Rattle.rtl_tree.specs.declared.cells.Cell.TheVariants.{Flag}
 use Rattle.rtl_word.specs.declared.Rel.{Rel}
 use Rattle.rtl_tree.specs.declared.expressions.UnOp.{UnOp}
 use Rattle.rtl_tree.specs.declared.expressions.UnOp.TheVariants.{Neg, Not, Sxb, Test}
 use Rattle.rtl_tree.specs.declared.expressions.BinOp.{BinOp}
 use Rattle.rtl_tree.specs.declared.expressions.BinOp.TheVariants.{Add, Sub, Mul, Div, Divu, Rem, Remu, And, Or, Xor, Shl, Shr, Shru, Cmp, Pair, When}
-use Rattle.rtl_value.specs.declared.state.Trap.TheVariants.{Address, Align, LostFlag}
+use Rattle.rtl_value.specs.declared.state.Trap.TheVariants.{Address, Align}
 use Rattle.rtl_value.specs.declared.state.Trap.{Trap}
 use Rattle.rtl_value.specs.Values.{binary_of, or_trap}
 use Rattle.std.specs.Prelude.{◌-◌, ◌^◌, ◌||◌, ◌&&◌, not}
-use Rattle.std.proofs.lemmas.Bool.Decides.{nat_tests}
-use Rattle.rtl_effect.specs.Views.{Stop, Traps, Wild, Mark, Holds, Gone, View, Seen, bind, lifted, both, word_at, all_reached, width_of, touched, unary_seen, binary_seen, may_trap, some_trap, unary_on, binary_on, load_on, mark_test, seen, test_seen}
+use Rattle.rtl_effect.specs.Views.{Stop, Traps, Wild, Mark, View, Seen, bind, lifted, both, word_at, all_reached, width_of, touched, unary_seen, binary_seen, may_trap, some_trap, unary_on, binary_on, load_on, mark_test, seen, test_seen}
 use Rattle.rtl_effect.specs.Agree.{Tells, blank, word, Marks, gone, holds, Refines, stops, gives, Ground, Shows, Within}
 
 abbrev pub Sees : Seen → Seen → Type 0

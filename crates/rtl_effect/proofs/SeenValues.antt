@@ -1,10 +1,9 @@
 -- Where all is set, what is seen is the value.
-use Rattle.std.proofs.Common.{◌≡◌, ℕ, zero, suc, ◌+◌, ◌*◌, ◌/◌, ◌%◌, ◌<◌, Bool, true, false, cond, List, length, slice_index, nat_eq, nat_lt, Option, Some, None, Result, Ok, Err, arith, refl, sym, ap, ◌∙◌, subst}
-use Rattle.std.proofs.lemmas.Grind.{common_steps}
+use Rattle.std.proofs.Common.{◌≡◌, ℕ, zero, suc, ◌+◌, ◌*◌, ◌/◌, ◌%◌, Bool, true, false, cond, List, slice_index, Option, Some, None, Result, Ok, Err, arith, refl, sym, ap, ◌∙◌}
 use Rattle.std.proofs.lemmas.Bool.Decides.{nat_tests}
-use Rattle.std.specs.Prelude.{slice_get, nat_le, ◌==◌}
+use Rattle.std.specs.Prelude.{slice_get, ◌==◌}
 use Rattle.rtl_tree.specs.Trees.{Tree, Number, Symbol, CodeLabel, Read, Load, Unary, Binary, NoPair, AnyNumber, AnyName}
-use Rattle.rtl_tree.specs.declared.cells.Cell.TheVariants.{Hard, Temp, Flag, Pc, Input, Output, Halt, Hole}
+use Rattle.rtl_tree.specs.declared.cells.Cell.TheVariants.{Flag}
 use Rattle.rtl_tree.specs.declared.expressions.Width.{Width}
 use Rattle.rtl_tree.specs.declared.expressions.Width.TheVariants.{Byte, Full}
 use Rattle.rtl_word.specs.declared.Rel.{Rel}
@@ -17,7 +16,7 @@ use Rattle.rtl_value.specs.declared.state.Trap.TheVariants.{Address, Align}
 use Rattle.rtl_value.specs.declared.state.FlagPair.{FlagPair}
 use Rattle.rtl_value.specs.declared.state.State.{State}
 use Rattle.rtl_value.specs.Values.{value_of, test_of, flag_test, load_of, bytes_at, and_then, unary_value, binary_value}
-use Rattle.rtl_effect.specs.Views.{Stop, Traps, Wild, View, Seen, bind, lifted, both, word_at, all_reached, width_of, touched, unary_on, binary_on, load_on, mark_test, mark_of, seen, test_seen, view_of}
+use Rattle.rtl_effect.specs.Views.{Traps, Wild, Seen, bind, lifted, both, word_at, all_reached, width_of, unary_on, binary_on, load_on, mark_test, mark_of, test_seen, view_of}
 use Rattle.rtl_effect.specs.Laws.{SeenIsValue}
 
 unary-lifts : (w : ℕ) (o : UnOp) (u : Result ℕ Trap) → unary_on w o (lifted u) ≡ lifted (unary_value w o u)

@@ -1,6 +1,6 @@
 -- A newer view that agrees with an older one where the older one is set and live.
 use Rattle.std.specs.Prelude.{ℕ, ◌≡◌, Bool, true, List, [], ◌∷◌, Option, Some, None, Result, Ok, Err}
-use Rattle.rtl_tree.specs.Trees.{Tree, Number, Symbol, CodeLabel, Read, Load, Unary, Binary, NoPair, AnyNumber, AnyName}
+use Rattle.rtl_tree.specs.Trees.{Tree, Read, Load, Unary, Binary}
 use Rattle.rtl_tree.specs.declared.cells.Cell.{Cell}
 use Rattle.rtl_tree.specs.declared.cells.Cell.TheVariants.{Flag, Pc}
 use Rattle.rtl_tree.specs.declared.cells.Lab.{Lab}

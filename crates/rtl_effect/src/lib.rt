@@ -7,7 +7,7 @@
 //! newer view which agrees on what is read sees and does the same (`seen_grows`, `effect_grows`).
 #![tactic(auto)]
 
-ghost use Rattle.rtl_effect.specs.Laws.{EffectGrows, SeenGrows, SeenIsValue};
+ghost use Rattle.rtl_effect.specs.EffectLaws.{EffectGrows, SeenGrows, SeenIsValue};
 
 /// Where all is set and all may be touched, what is seen is the value or the trap.
 pub fn seen_is_value()

@@ -17,7 +17,7 @@ use Rattle.rtl_value.specs.declared.state.Trap.{Trap}
 use Rattle.rtl_value.specs.declared.state.FlagPair.{FlagPair}
 use Rattle.rtl_value.specs.declared.state.State.{State}
 use Rattle.rtl_value.specs.Values.{value_of, test_of, cell_of, label_of, load_of, flag_test, and_then, unary_value, binary_value}
-use Rattle.rtl_value.specs.Laws.{set_cell, set_flag, IsVariable}
+use Rattle.rtl_value.specs.SubstitutionLaws.{set_cell, set_flag, IsVariable}
 
 -- r is s, but for the cell c, which holds there what the tree is in s
 pub record Sets (w : ℕ) (s r : State) (c : Cell) (by : Tree) : Type 0 where
@@ -126,6 +126,6 @@ put-sets_flag w n a b t s x y h e f k =
       symbols = refl;
       labels = refl;
       cells = λ d i. no_flag w n (Binary Pair a b) s d i;
-      flags = λ q m. chosen_test w q (m == n) (Binary Pair a b) m s pair (tested q) ∙ ap (flag_test w q) (sym (get_set s.flags n m (Some pair) h))
+      flags = λ q m. chosen_test w q (m == n) (Binary Pair a b) m s pair (tested q) ∙ ap (flag_test w q) (sym (get_set s.flags n m (Some pair) h));
     })
     k

@@ -11,7 +11,8 @@ use rtl_word::{Rel, Word};
 fn cell<W: Word>(s: &State, c: Cell) -> u32
     requires sound { IsSound W.BITS s.now }
     requires read { IsCellRead s.now c }
-    ensures { result ≡ cell_of W.BITS s.now c }
+    ensures value { result ≡ cell_of W.BITS s.now c }
+    ensures fits { result < 2 ^ W.BITS }
 {
     match c {
         Cell::Hard(n) => s.registers.list[usize::from(n)],
@@ -25,9 +26,11 @@ fn cell<W: Word>(s: &State, c: Cell) -> u32
     }
 }
 
-fn label(s: &State, l: Lab) -> u32
-    requires { IsSome (place_of_label s.now.labels l) }
-    ensures { result ≡ label_of s.now l }
+fn label<W: Word>(s: &State, l: Lab) -> u32
+    requires sound { IsSound W.BITS s.now }
+    requires placed { IsSome (place_of_label s.now.labels l) }
+    ensures value { result ≡ label_of s.now l }
+    ensures fits { result < 2 ^ W.BITS }
 {
     match place(&s.labels.list, l) {
         Some(at) => at,
@@ -35,7 +38,7 @@ fn label(s: &State, l: Lab) -> u32
     }
 }
 
-fn place(labels: &[LabelAt], l: Lab) -> Option<u32>
+pub fn place(labels: &[LabelAt], l: Lab) -> Option<u32>
     ensures { result ≡ place_of_label labels.now l }
 {
     for entry in labels {
@@ -47,8 +50,9 @@ fn place(labels: &[LabelAt], l: Lab) -> Option<u32>
 }
 
 fn test_pair<W: Word>(r: Rel, pair: Option<FlagPair>) -> Result<u32, Trap>
-    requires { IsPairOfWords W.BITS (Some pair) }
-    ensures { result ≡ flag_test W.BITS r (Some pair) }
+    requires { IsPairOfWords W.BITS pair }
+    ensures value { result ≡ flag_test W.BITS r (Some pair) }
+    ensures fits { IsWord W.BITS result }
 {
     match pair {
         None => Err(Trap::LostFlag),
@@ -60,7 +64,8 @@ fn test_pair<W: Word>(r: Rel, pair: Option<FlagPair>) -> Result<u32, Trap>
 fn test<W: Word>(r: Rel, e: &Expr, s: &State) -> Result<u32, Trap>
     requires sound { IsSound W.BITS s.now }
     requires read { IsFlagRead (tree_of e.now) }
-    ensures { result ≡ test_of W.BITS r (tree_of e.now) s.now }
+    ensures value { result ≡ test_of W.BITS r (tree_of e.now) s.now }
+    ensures fits { IsWord W.BITS result }
 {
     match e {
         Expr::Cell(Cell::Flag(n)) => test_pair::<W>(r, s.flags.list[usize::from(*n)]),
@@ -69,7 +74,7 @@ fn test<W: Word>(r: Rel, e: &Expr, s: &State) -> Result<u32, Trap>
 }
 
 /// What an operator on two words gives. A pair and a jump have no value.
-pub fn binary<W: Word>(operator: BinOp, a: u32, b: u32) -> Result<u32, Trap>
+pub fn apply_binary<W: Word>(operator: BinOp, a: u32, b: u32) -> Result<u32, Trap>
     requires a_fits { a < 2 ^ W.BITS }
     requires b_fits { b < 2 ^ W.BITS }
     ensures value { result ≡ binary_of W.BITS operator a b }
@@ -96,7 +101,8 @@ pub fn binary<W: Word>(operator: BinOp, a: u32, b: u32) -> Result<u32, Trap>
 
 fn word_at<W: Word>(memory: &[u8], at: usize) -> u32
     requires { at + W.BITS / 8 ≤ length memory.now }
-    ensures { result ≡ bytes_at memory.now at (W.BITS / 8) }
+    ensures value { result ≡ bytes_at memory.now at (W.BITS / 8) }
+    ensures fits { result < 2 ^ W.BITS }
 {
     let low = u32::from(memory[at]) + 256 * u32::from(memory[at + 1]);
     if W::BITS == 16 {
@@ -106,7 +112,8 @@ fn word_at<W: Word>(memory: &[u8], at: usize) -> u32
 }
 
 fn load<W: Word>(memory: &[u8], width: Width, at: u32) -> Result<u32, Trap>
-    ensures { result ≡ load_of W.BITS width memory.now at }
+    ensures value { result ≡ load_of W.BITS width memory.now at }
+    ensures fits { IsWord W.BITS result }
 {
     let at = at as usize;
     match width {
@@ -140,7 +147,7 @@ pub fn value<W: Word>(e: &Expr, s: &State) -> Result<u32, Trap>
     match e {
         Expr::Num(n) => Ok(*n),
         Expr::Sym(n) => Ok(s.symbols.list[usize::from(*n)]),
-        Expr::Label(l) => Ok(label(s, *l)),
+        Expr::Label(l) => Ok(label::<W>(s, *l)),
         Expr::Cell(c) => Ok(cell::<W>(s, *c)),
         Expr::Mem(width, a) => {
             let at = value::<W>(a, s)?;
@@ -162,7 +169,7 @@ pub fn value<W: Word>(e: &Expr, s: &State) -> Result<u32, Trap>
         Expr::Bin(operator, a, b) => {
             let x = value::<W>(a, s)?;
             let y = value::<W>(b, s)?;
-            binary::<W>(*operator, x, y)
+            apply_binary::<W>(*operator, x, y)
         }
         Expr::Lost | Expr::NumHole(_) | Expr::NameHole(_) => unreachable!(),
     }

@@ -11,5 +11,5 @@ pub AreNames-push : (ns : List (List ℕ)) (n : List ℕ) → AreNames ns → Is
 AreNames-push ns n h name new room = record {
   names = All-append IsName ns (n ∷ []) h.names (All-cons IsName n [] name (All-nil IsName));
   different = all_pairs_push (λ l m. l ≢ m) ns n h.different (λ k d within e. new (subst (Contains ns) e (Contains-get_or ns k d within)));
-  many = grind (arith, common_steps, room)
+  many = grind (arith, common_steps, room);
 }

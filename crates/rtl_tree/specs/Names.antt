@@ -1,5 +1,5 @@
 -- Names of C: letters, digits and underscores, no digit first (C11 6.4.2.1).
-use Rattle.std.specs.Prelude.{ℕ, ◌<◌, ◌≤◌, ◌≡◌, ◌≢◌, ◌⊎◌, List, [], ◌∷◌, length, All, AllPairs}
+use Rattle.std.specs.Prelude.{ℕ, ◌<◌, ◌≤◌, ◌≡◌, ◌≢◌, ◌⊎◌, List, ◌∷◌, length, All, AllPairs}
 use Rattle.std.specs.Char.{IsAsciiDigit}
 
 -- an underscore, a digit, or a letter of either case

@@ -32,6 +32,23 @@ impl Model for Assign {
     ghost view = { λ a. record { to = goal_of a.to; value = tree_of a.value } };
 }
 
+/// The number 0 to register 0, which fills the inline places of a list that are not in use.
+impl Default for Assign {
+    ghost use Rattle.std.specs.Prelude.{◌≡◌};
+    ghost use Rattle.rtl_tree.specs.declared.cells.Cell.TheVariants.{Hard};
+    ghost use Rattle.rtl_tree.specs.Trees.{Number};
+    ghost use Rattle.rtl_tree.specs.Moves.{ToCell};
+
+    fn default() -> Assign
+        ensures { result ≡ record { to = ToCell (Hard 0); value = Number 0 } }
+    {
+        Assign {
+            to: Place::Cell(Cell::Hard(0)),
+            value: Expr::Num(0),
+        }
+    }
+}
+
 /// A transfer: one to six assignments. All right sides and addresses are read before anything is assigned. Contracts see it as the
 /// list of its moves.
 #[derive(Debug, Drop)]

@@ -1,5 +1,5 @@
 -- The value of a tree in a state: a word, or the first trap, left operand before right.
-use Rattle.std.specs.Prelude.{ℕ, zero, suc, ◌+◌, ◌-◌, ◌*◌, ◌/◌, ◌%◌, ◌^◌, ◌<◌, ◌≡◌, if◌then◌else◌, nat_le, ◌==◌, List, [], ◌∷◌, length, slice_get, slice_index, Option, Some, None, IsSome, Result, Ok, Err, bit_and, bit_or, bit_xor}
+use Rattle.std.specs.Prelude.{ℕ, zero, suc, ◌+◌, ◌-◌, ◌*◌, ◌/◌, ◌%◌, ◌^◌, ◌<◌, ◌≡◌, if◌then◌else◌, nat_le, ◌==◌, List, [], ◌∷◌, length, slice_get, slice_index, Option, Some, None, IsSome, All, EachIndex, Result, Ok, Err, bit_and, bit_or, bit_xor}
 use Rattle.rtl_word.specs.declared.Rel.{Rel}
 use Rattle.rtl_word.specs.Words.{word_add, word_sub, word_mul, word_neg, word_not, word_sxb, word_rel, word_div, word_rem, word_divu, word_remu, word_shl, word_shr, word_shru}
 use Rattle.rtl_tree.specs.declared.cells.Cell.{Cell}
@@ -123,22 +123,24 @@ abbrev mutual
   test_of w r (Binary Pair a b) s = binary_value w (Cmp r) (value_of w a s) (value_of w b s)
   test_of w r _ s = Err LostFlag
 
-abbrev pub IsPairOfWords : ℕ → Option (Option FlagPair) → Type 0
-IsPairOfWords w (Some (Some p)) = (p.left < 2 ^ w) × (p.right < 2 ^ w)
-IsPairOfWords w _ = Unit {0}
+abbrev pub AreWords : ℕ → List ℕ → Type 0
+AreWords w ns = EachIndex ns (λ k. slice_index ns k < 2 ^ w)
+
+-- what a flag holds is lost, or a pair of words
+abbrev pub IsPairOfWords : ℕ → Option FlagPair → Type 0
+IsPairOfWords w (Some p) = (p.left < 2 ^ w) × (p.right < 2 ^ w)
+IsPairOfWords w None = Unit {0}
 
 -- a state has 64 registers and 8 flags, and what it holds for a cell, a symbol or a label is a word
 pub record IsSound (w : ℕ) (s : State) : Type 0 where
   pub registers_long : length s.registers ≡ 64
   pub flags_long : length s.flags ≡ 8
-  pub registers : (k : ℕ) → slice_index s.registers k < 2 ^ w
-  pub temps : (k : ℕ) → slice_index s.temps k < 2 ^ w
-  pub memory : (k : ℕ) → slice_index s.memory k < 256
-  pub symbols : (k : ℕ) → slice_index s.symbols k < 2 ^ w
-  pub labels : (l : Lab) → label_of s l < 2 ^ w
+  pub registers : AreWords w s.registers
+  pub temps : AreWords w s.temps
+  pub symbols : AreWords w s.symbols
+  pub labels : All (λ e. e.at < 2 ^ w) s.labels
   pub next_place : s.next_place < 2 ^ w
-  pub input : input_word w s.input < 2 ^ w
-  pub flags : (k : ℕ) → IsPairOfWords w (slice_get s.flags k)
+  pub flags : All (λ p. IsPairOfWords w p) s.flags
 
 -- a cell that a tree may read as a word
 abbrev pub IsCellRead : State → Cell → Type 0

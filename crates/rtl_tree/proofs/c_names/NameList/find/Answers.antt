@@ -1,4 +1,4 @@
-use Rattle.std.proofs.Common.{rules, ◌≡◌, ◌∙◌, refl, ap, arith, subst}
+use Rattle.std.proofs.Common.{rules, ◌≡◌, ◌∙◌, refl, arith}
 use Rattle.std.specs.Prelude.{slice_get, Some}
 use Rattle.std.proofs.lemmas.Option.{slice_get_read}
 use Rattle.rtl_tree.proofs.c_names.NameList.find.Goals as goal

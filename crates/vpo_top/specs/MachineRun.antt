@@ -1,5 +1,5 @@
 -- What a program of the described machine does.
-use Rattle.std.specs.Prelude.{ℕ, suc, ◌%◌, true, List, [], ◌∷◌, ◌++◌, slice_get, Option, Some, None, Result, Ok, Err}
+use Rattle.std.specs.Prelude.{ℕ, suc, true, List, [], ◌∷◌, ◌++◌, slice_get, Option, Some, None, Result, Ok, Err}
 use Rattle.behaviour.specs.Behaviour.{Trapped, Wild as WildRun, Behaviour}
 use Rattle.behaviour.specs.Run.{Run}
 use Rattle.behaviour.specs.Steps.{Move as Turn, Goes, Stops, Fails, run_by}
@@ -59,10 +59,10 @@ cell_with_next next cells c = cells c
 abbrev pub view_at : ℕ → View → View
 view_at place v = record v { cells = cell_with_next (suc place) v.cells }
 
--- the low byte of what goes to the output
+-- the byte that goes to the output, if one does
 abbrev pub byte_out : Option ℕ → List ℕ
 byte_out None = []
-byte_out (Some n) = n % 256 ∷ []
+byte_out (Some byte) = byte ∷ []
 
 -- after an effect: the byte that is printed comes before the end
 abbrev pub moved : Option ℕ → View → List ℕ → Turn MachineState
@@ -70,7 +70,7 @@ moved (Some place) v printed = Goes (record { place = place; view = v; printed =
 moved None v printed = Fails printed WildRun
 
 abbrev pub halted : Option ℕ → Option ℕ → View → List ℕ → Turn MachineState
-halted (Some status) place v printed = Stops printed (status % 256)
+halted (Some status) place v printed = Stops printed status
 halted None place v printed = moved place v printed
 
 abbrev pub after_effect : MachineState → Result Done Stop → Turn MachineState

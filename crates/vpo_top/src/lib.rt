@@ -7,11 +7,13 @@
 
 mod assembly;
 mod description;
-mod report;
+pub mod report;
 mod request;
 pub mod source;
 pub mod source_run;
 pub mod theorem;
+#[cfg(test)]
+mod tests;
 mod top;
 
 pub use top::vpo;

@@ -11,7 +11,7 @@ use Rattle.md_rows.specs.declared.description.RawDescription.{RawDescription}
 use Rattle.vpo_top.specs.declared.source.SourceProgram.{SourceProgram}
 use Rattle.vpo_top.specs.FirstDescription.{IsDescription}
 use Rattle.vpo_top.specs.Source.{SpellsSource}
-use Rattle.vpo_top.specs.Judgement.{byte_limit, not_built, IsDescribedBy, IsSpelledBy, IsAccepted, IsCompiled, Judges, JudgesDescription, JudgesSource, IsRefusalOfSource, HasFetchCause, OfFiles}
+use Rattle.vpo_top.specs.Judgement.{byte_limit, not_built, IsDescribedBy, IsSpelledBy, IsAcceptedDescription, IsAcceptedSource, Judges, JudgesDescription, JudgesSource, IsRefusalOfSource, HasFetchCause, OfFiles}
 use Rattle.vpo_top.specs.Compiled.{compiled_text}
 use Rattle.vpo_top.specs.Headline.{IsCompiledTo}
 use Rattle.vpo_top.proofs.CompiledTo.{compiled_to}
@@ -77,20 +77,20 @@ compiled_of_files (Some files) told' description source text d p same described 
 -- and both are accepted
 pub accepted_files : (told told' : Told) (description source : List ℕ) (d : RawDescription) (p : SourceProgram)
   → told' ≡ told → OfFile told description (λ file. IsDescribedBy file d) → OfFile told' source (λ file. IsSpelledBy file p)
-  → OfFiles told description source (λ machine_text source_text. IsAccepted machine_text × IsCompiled source_text)
+  → OfFiles told description source (λ machine_text source_text. IsAcceptedDescription machine_text × IsAcceptedSource source_text)
 accepted_files None told' description source d p same described spelled = tt
 accepted_files (Some files) told' description source d p same described spelled =
   let Q : Told → Type 0 = λ t. OfFile t source (λ file. IsSpelledBy file p) in ((d, described), (p, subst Q same spelled))
 
 -- a text was compiled, and written whole or in part
 pub done_judged : (told : Told) (description source : List ℕ)
-  → OfFiles told description source (λ machine_text source_text. IsAccepted machine_text × IsCompiled source_text)
+  → OfFiles told description source (λ machine_text source_text. IsAcceptedDescription machine_text × IsAcceptedSource source_text)
   → OfFiles told description source (λ machine_text source_text. Judges machine_text source_text (Done 0))
 done_judged None description source accepted = tt
 done_judged (Some files) description source accepted = (refl, accepted.0, accepted.1)
 
 pub write_fault_judged : (told : Told) (description source : List ℕ)
-  → OfFiles told description source (λ machine_text source_text. IsAccepted machine_text × IsCompiled source_text)
+  → OfFiles told description source (λ machine_text source_text. IsAcceptedDescription machine_text × IsAcceptedSource source_text)
   → OfFiles told description source (λ machine_text source_text. Judges machine_text source_text WriteFault)
 write_fault_judged None description source accepted = tt
 write_fault_judged (Some files) description source accepted = accepted

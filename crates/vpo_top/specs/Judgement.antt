@@ -35,12 +35,12 @@ abbrev pub IsFetchRefusal : Which → Outcome → Type 0
 IsFetchRefusal which outcome = (outcome ≡ NoMemory) ⊎ (outcome ≡ ReadFault which) ⊎ (outcome ≡ FileTooLong which)
 
 -- the bytes are a description that is accepted
-abbrev pub IsAccepted : List ℕ → Type 0
-IsAccepted description = (d : RawDescription) × IsDescribedBy description d
+abbrev pub IsAcceptedDescription : List ℕ → Type 0
+IsAcceptedDescription description = (d : RawDescription) × IsDescribedBy description d
 
 -- the bytes are a source that is accepted
-abbrev pub IsCompiled : List ℕ → Type 0
-IsCompiled source = (p : SourceProgram) × IsSpelledBy source p
+abbrev pub IsAcceptedSource : List ℕ → Type 0
+IsAcceptedSource source = (p : SourceProgram) × IsSpelledBy source p
 
 -- the refusals of a description, and where each comes
 abbrev pub IsRefusalOfDescription : Outcome → Type 0
@@ -77,9 +77,9 @@ JudgesSource source _ = ⊥
 -- where each outcome comes, for what the two files hold: a description is judged before a source, and but for want of memory and
 -- faults of the outside, just one outcome fits
 abbrev pub Judges : List ℕ → List ℕ → Outcome → Type 0
-Judges description source (Done status) = (status ≡ 0) × IsAccepted description × IsCompiled source
-Judges description source WriteFault = IsAccepted description × IsCompiled source
-Judges description source outcome = JudgesDescription description outcome ⊎ (IsAccepted description × JudgesSource source outcome)
+Judges description source (Done status) = (status ≡ 0) × IsAcceptedDescription description × IsAcceptedSource source
+Judges description source WriteFault = IsAcceptedDescription description × IsAcceptedSource source
+Judges description source outcome = JudgesDescription description outcome ⊎ (IsAcceptedDescription description × JudgesSource source outcome)
 
 -- a file's fault comes only where the count of the fetches of its name rose
 abbrev pub HasFetchCause : Told → List ℕ → List ℕ → FaultCounts → FaultCounts → Outcome → Type 0

@@ -35,10 +35,10 @@ abbrev pub message : Outcome → List ℕ
 message outcome = codes "vpo: " ++ (complaint outcome ++ 10 ∷ [])
 
 -- this line was written whole, or, where the stream failed, some first bytes of it
-abbrev pub IsWritten : List ℕ → Option (List ℕ) → Option (List ℕ) → ℕ → ℕ → Type 0
-IsWritten line old new before now = Appends old new line ⊎ (AppendsPart old new line × Rose before now)
+abbrev pub IsLineWritten : List ℕ → Option (List ℕ) → Option (List ℕ) → ℕ → ℕ → Type 0
+IsLineWritten line old new before now = Appends old new line ⊎ (AppendsPart old new line × Rose before now)
 
 -- what is written to the error stream, of which the count of faults goes from before to now
 abbrev pub IsReported : Outcome → Option (List ℕ) → Option (List ℕ) → ℕ → ℕ → Type 0
 IsReported (Done status) old new before now = (new ≡ old) × (now ≡ before)
-IsReported outcome old new before now = IsWritten (message outcome) old new before now
+IsReported outcome old new before now = IsLineWritten (message outcome) old new before now

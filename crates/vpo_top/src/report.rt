@@ -1,9 +1,9 @@
 //! The line that is written to the error stream.
 
-ghost use Rattle.std.specs.Prelude.{◌≡◌, ◌+◌, ◌≤◌, ◌++◌, ◌<◌, length, decimal};
+ghost use Rattle.std.specs.Prelude.{◌≡◌, ℕ, ◌+◌, ◌≤◌, ◌++◌, ◌<◌, length, decimal};
 ghost use Rattle.arrayvec.specs.ArrayString.{array_string_len};
 ghost use Rattle.vp_io.specs.Counts.{HasCause};
-ghost use Rattle.vpo_top.specs.Messages.{input_name, complaint, message, IsReported, IsWritten};
+ghost use Rattle.vpo_top.specs.Messages.{input_name, complaint, message, IsReported, IsLineWritten};
 
 use arrayvec::ArrayString;
 use itoa::Buffer;
@@ -17,6 +17,7 @@ type Line = ArrayString<ROOM>;
 /// Says on the error stream what the outcome is, where it isn't as asked. A failure of the stream has no effect but there.
 pub fn report<E: Sink>(outcome: &Outcome, errors: &mut E)
     ensures line { IsReported outcome.now (E.written errors.old) (E.written errors.new) (E.faults errors.old) (E.faults errors.new) }
+    ensures quiet { (status : ℕ) → outcome.now ≡ Outcome.Done status → errors.new ≡ errors.old }
 {
     if let Outcome::Done(_) = outcome {
         return;
@@ -26,7 +27,7 @@ pub fn report<E: Sink>(outcome: &Outcome, errors: &mut E)
 }
 
 fn write_line<E: Sink>(errors: &mut E, line: &[u8])
-    ensures { IsWritten line.now (E.written errors.old) (E.written errors.new) (E.faults errors.old) (E.faults errors.new) }
+    ensures { IsLineWritten line.now (E.written errors.old) (E.written errors.new) (E.faults errors.old) (E.faults errors.new) }
 {
     match write_whole(errors, line) {
         Ok(()) => {}

@@ -5,7 +5,7 @@ ghost use Rattle.rtl_word.specs.Words.{IsWordSize};
 ghost use Rattle.vp_io.specs.Files.{OfFile, CountsOnly, RoseBy};
 ghost use Rattle.vpo_top.specs.Request.{request_of, bytes_of_words, ForCompilation};
 ghost use Rattle.vpo_top.specs.Messages.{IsReported};
-ghost use Rattle.vpo_top.specs.Judgement.{byte_limit, IsDescribedBy, IsSpelledBy, IsFetchRefusal, IsAccepted, IsCompiled, IsRefusalOfDescription, JudgesDescription, IsRefusalOfSource, JudgesSource, Judges, HasFetchCause, HasOutsideCause, IsRefusal, IsOfCompilation, OfFiles, CountsOnlyOf};
+ghost use Rattle.vpo_top.specs.Judgement.{byte_limit, IsDescribedBy, IsSpelledBy, IsFetchRefusal, IsAcceptedDescription, IsAcceptedSource, IsRefusalOfDescription, JudgesDescription, IsRefusalOfSource, JudgesSource, Judges, HasFetchCause, HasOutsideCause, IsRefusal, IsOfCompilation, OfFiles, CountsOnlyOf};
 ghost use Rattle.vpo_top.specs.Headline.{IsCompiledTo, IsWritten};
 
 use md_rows::RawDescription;
@@ -62,6 +62,7 @@ pub fn vpo<F: Files, S: Source, K: Sink, E: Sink>(
     ensures untouched { IsRefusal result → output.new ≡ output.old }
     ensures input_kept { input.new ≡ input.old }
     // One line tells what the outcome is, where it isn't as asked.
+    ensures quiet { (status : ℕ) → result ≡ Outcome.Done status → errors.new ≡ errors.old }
     ensures reported { IsReported result (E.written errors.old) (E.written errors.new) (E.faults errors.old) (E.faults errors.new) }
 {
     let outcome = answer(alloc, words.as_slice(), files, output);
@@ -117,7 +118,7 @@ fn compile<F: Files>(alloc: Global, files: &mut F, description: &str, source: &s
     ensures compiled { OfFiles (F.files files.old) description.now source.now (λ machine_text source_text.
         IfOk result (λ text. IsCompiledTo machine_text source_text text.items)) }
     ensures accepted { OfFiles (F.files files.old) description.now source.now (λ machine_text source_text.
-        OnOk result (IsAccepted machine_text × IsCompiled source_text)) }
+        OnOk result (IsAcceptedDescription machine_text × IsAcceptedSource source_text)) }
     ensures judged { OfFiles (F.files files.old) description.now source.now (λ machine_text source_text.
         IfErr result (λ outcome. Judges machine_text source_text outcome)) }
     ensures possible { IfErr result (λ outcome. IsRefusalOfDescription outcome ⊎ IsRefusalOfSource outcome) }

@@ -32,6 +32,16 @@ impl Model for Assign {
     ghost view = { λ a. record { to = goal_of a.to; value = tree_of a.value } };
 }
 
+/// `HALT = 0`, which stands in the unused places of a short list.
+impl Default for Assign {
+    fn default() -> Assign {
+        Assign {
+            to: Place::Cell(Cell::Halt),
+            value: Expr::Num(0),
+        }
+    }
+}
+
 /// A transfer: one to six assignments. All right sides and addresses are read before anything is assigned. Contracts see it as the
 /// list of its moves.
 #[derive(Debug, Drop)]

@@ -1,3 +1,4 @@
 mod Reports
 mod Lines
 pub mod SourceText
+mod DescriptionSplits

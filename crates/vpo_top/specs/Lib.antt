@@ -6,3 +6,6 @@ pub mod Source
 pub mod SourceReading
 pub mod Spacing
 pub mod Compiled
+pub mod DescriptionLines
+pub mod DescriptionParts
+pub mod DescriptionLaw

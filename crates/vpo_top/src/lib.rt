@@ -2,6 +2,7 @@
 #![tactic(auto)]
 
 mod assembly;
+pub mod description;
 mod report;
 mod request;
 pub mod source;

@@ -1,0 +1,59 @@
+-- How a text falls into parts round a byte.
+use Rattle.std.proofs.Common.{◌≡◌, ℕ, ◌+◌, ◌<◌, ◌≤◌, suc, min, Bool, true, false, not, cond, ltb, eqb, Option, Some, None, List, [], ◌∷◌, ◌++◌, length, get_or, take, drop, refl, sym, ap, subst, ◌∙◌, arith, rules, drop-cons, length-append}
+use Rattle.std.proofs.lemmas.Bool.{and_parts, eqb-true, eqb-self, lt-ltb}
+use Rattle.std.proofs.lemmas.List.{take_at, drop_at, length-take, get_or-take, get_or_default, take-append-drop}
+use Rattle.std.proofs.lemmas.List.Quantifiers.{position-Some}
+use Rattle.std.proofs.lemmas.List.Sums.{list_all-from_AllPass}
+use Rattle.std.specs.List.{list_all, position, position_or_len, prefix_len, AllPass}
+use Rattle.std.specs.Prelude.{IsTrue, nat_lt}
+use Rattle.vpo_top.specs.DescriptionLines.{lacks, IsSplitAtByte}
+
+other_byte : (b c : ℕ) → not (eqb c b) ≡ true → c ≡ b → ⊥
+other_byte b c h e = grind (arith, rules)
+
+-- the first part is what stands before the first such byte
+pub same_front : (b : ℕ) (f g k m : List ℕ) → lacks b f ≡ true → lacks b g ≡ true → f ++ b ∷ k ≡ g ++ b ∷ m → (f ≡ g) × (k ≡ m)
+same_front b [] [] k m p q e = (refl, cc)
+same_front b [] (c ∷ g) k m p q e = absurd (other_byte b c (and_parts (not (eqb c b)) (lacks b g) q).0 (sym cc))
+same_front b (c ∷ f) [] k m p q e = absurd (other_byte b c (and_parts (not (eqb c b)) (lacks b f) p).0 cc)
+same_front b (c ∷ f) (d ∷ g) k m p q e =
+    let rest = same_front b f g k m (and_parts (not (eqb c b)) (lacks b f) p).1 (and_parts (not (eqb d b)) (lacks b g) q).1 cc in
+    let same : c ≡ d = cc in
+    let front : f ≡ g = rest.0 in
+    (cc, rest.1)
+
+is_byte : ℕ → ℕ → Bool
+is_byte b c = eqb c b
+
+-- such a byte has a place
+placed : (b : ℕ) (f k : List ℕ) → position_or_len (λ c. eqb c b) (f ++ b ∷ k) < length (f ++ b ∷ k)
+placed b [] k = let e : eqb b b ≡ true = eqb-self b in rw e (omega arith)
+placed b (c ∷ f) k = let more = placed b f k in one_more (eqb c b) (position_or_len (λ d. eqb d b) (f ++ b ∷ k)) (length (f ++ b ∷ k)) more
+  where
+    one_more : (r : Bool) (n m : ℕ) → n < m → cond (not r) (1 + n) 0 < suc m
+    one_more true n m l = omega arith
+    one_more false n m l = omega arith
+
+pub unplaced : (b : ℕ) (t f k : List ℕ) → position (λ c. eqb c b) t ≡ None → IsSplitAtByte b t f k → ⊥
+unplaced b t f k e h =
+    let l : position_or_len (λ c. eqb c b) t < length t = rw h.text (placed b f k) in
+    let some : position (λ c. eqb c b) t ≡ Some (position_or_len (λ c. eqb c b) t) = rw (lt-ltb l) refl in
+    absurd (clash (sym some ∙ e))
+  where
+    clash : Some (position_or_len (λ c. eqb c b) t) ≡ None → ⊥
+    clash q = cc
+
+other_passes : (r : Bool) → r ≡ false → not r ≡ true
+other_passes r e = rw e refl
+
+pub split_found : (b : ℕ) (t : List ℕ) (n : ℕ) → position (λ c. eqb c b) t ≡ Some n → IsSplitAtByte b t (take n t) (drop (suc n) t)
+split_found b t n e =
+    let at = position-Some (λ c. eqb c b) t n 0 e in
+    let here : get_or t n 0 ≡ b = eqb-true (get_or t n 0) b at.1 in
+    let free : AllPass (λ c. not (eqb c b)) (take n t) = λ k d l.
+        let below : k < n = omega (arith, l, length-take n t) in
+        let inside : k < length t = omega (arith, below, at.0) in
+        rw (get_or-take n t k d below) (rw (get_or_default t k d 0 inside) (other_passes (eqb (get_or t k 0) b) (at.2 k below))) in
+    record {
+      text = sym (take-append-drop n t) ∙ ap (λ r. take n t ++ r) (drop-cons t n 0 at.0 ∙ ap (λ x. x ∷ drop (suc n) t) here);
+      first = list_all-from_AllPass (λ c. not (eqb c b)) (take n t) free }

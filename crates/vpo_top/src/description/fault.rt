@@ -1,0 +1,21 @@
+//! Why no description is read.
+
+ghost use Rattle.std.specs.Prelude.{◌≡◌};
+
+use std::alloc::AllocError;
+
+/// Why no description was read.
+#[derive(Clone, Copy, Debug, PartialEq, Eq)]
+pub enum DescriptionFault {
+    NoMemory,
+    /// The text is no description of the form that is read.
+    Refused,
+}
+
+impl From<AllocError> for DescriptionFault {
+    ghost from_gives = { λ _ fault. fault ≡ DescriptionFault.NoMemory };
+
+    fn from(_: AllocError) -> DescriptionFault {
+        DescriptionFault::NoMemory
+    }
+}

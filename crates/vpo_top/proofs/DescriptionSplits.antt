@@ -1,6 +1,6 @@
 -- How a text falls into parts round a byte.
-use Rattle.std.proofs.Common.{◌≡◌, ℕ, ◌+◌, ◌<◌, ◌≤◌, suc, min, Bool, true, false, not, cond, ltb, eqb, Option, Some, None, List, [], ◌∷◌, ◌++◌, length, get_or, take, drop, refl, sym, ap, subst, ◌∙◌, arith, rules, drop-cons, length-append}
-use Rattle.std.proofs.lemmas.Bool.{and_parts, eqb-true, eqb-self, lt-ltb}
+use Rattle.std.proofs.Common.{◌≡◌, ℕ, ◌+◌, ◌-◌, ◌<◌, ◌≤◌, suc, min, Bool, true, false, not, cond, ltb, eqb, Option, Some, None, List, [], ◌∷◌, ◌++◌, length, get_or, take, drop, refl, sym, ap, subst, ◌∙◌, arith, rules, eq-eqb, drop-cons, length-append, length-drop, take-length, add-one}
+use Rattle.std.proofs.lemmas.Bool.{and_parts, eqb-true, lt-ltb}
 use Rattle.std.proofs.lemmas.List.{take_at, drop_at, length-take, get_or-take, get_or_default, take-append-drop}
 use Rattle.std.proofs.lemmas.List.Quantifiers.{position-Some}
 use Rattle.std.proofs.lemmas.List.Sums.{list_all-from_AllPass}
@@ -27,21 +27,24 @@ is_byte b c = eqb c b
 
 -- such a byte has a place
 placed : (b : ℕ) (f k : List ℕ) → position_or_len (λ c. eqb c b) (f ++ b ∷ k) < length (f ++ b ∷ k)
-placed b [] k = let e : eqb b b ≡ true = eqb-self b in rw e (omega arith)
+placed b [] k = let e : eqb b b ≡ true = eq-eqb b b refl in rw e (omega arith)
 placed b (c ∷ f) k = let more = placed b f k in one_more (eqb c b) (position_or_len (λ d. eqb d b) (f ++ b ∷ k)) (length (f ++ b ∷ k)) more
   where
     one_more : (r : Bool) (n m : ℕ) → n < m → cond (not r) (1 + n) 0 < suc m
     one_more true n m l = omega arith
     one_more false n m l = omega arith
 
+no_place : (n m : ℕ) → n < m → cond (ltb n m) (Some n) None ≡ None → ⊥
+no_place n m l e =
+    let some : cond (ltb n m) (Some n) None ≡ Some n = rw (lt-ltb n m l) refl in
+    let no : Some n ≡ None → ⊥ = λ q. cc in
+    no (sym some ∙ e)
+
 pub unplaced : (b : ℕ) (t f k : List ℕ) → position (λ c. eqb c b) t ≡ None → IsSplitAtByte b t f k → ⊥
 unplaced b t f k e h =
-    let l : position_or_len (λ c. eqb c b) t < length t = rw h.text (placed b f k) in
-    let some : position (λ c. eqb c b) t ≡ Some (position_or_len (λ c. eqb c b) t) = rw (lt-ltb l) refl in
-    absurd (clash (sym some ∙ e))
-  where
-    clash : Some (position_or_len (λ c. eqb c b) t) ≡ None → ⊥
-    clash q = cc
+    let P : List ℕ → Type 0 = λ s. position_or_len (λ c. eqb c b) s < length s in
+    let l : position_or_len (λ c. eqb c b) t < length t = subst P (sym h.text) (placed b f k) in
+    no_place (position_or_len (λ c. eqb c b) t) (length t) l e
 
 other_passes : (r : Bool) → r ≡ false → not r ≡ true
 other_passes r e = rw e refl
@@ -57,3 +60,11 @@ split_found b t n e =
     record {
       text = sym (take-append-drop n t) ∙ ap (λ r. take n t ++ r) (drop-cons t n 0 at.0 ∙ ap (λ x. x ∷ drop (suc n) t) here);
       first = list_all-from_AllPass (λ c. not (eqb c b)) (take n t) free }
+
+-- what a slice from n + 1 on has
+rest_from : (n : ℕ) (t : List ℕ) → take (length t - (n + 1)) (drop (n + 1) t) ≡ drop (suc n) t
+rest_from n t =
+    ap (λ k. take k (drop (n + 1) t)) (sym (length-drop (n + 1) t)) ∙ take-length (drop (n + 1) t) ∙ ap (λ k. drop k t) (add-one n)
+
+pub split_at_place : (b : ℕ) (t : List ℕ) (n : ℕ) → Some n ≡ position (λ c. eqb c b) t → IsSplitAtByte b t (take n t) (take (length t - (n + 1)) (drop (n + 1) t))
+split_at_place b t n e = rw (rest_from n t) (split_found b t n (sym e))

@@ -1,5 +1,5 @@
 -- What the lines of a description say, one by one.
-use Rattle.std.specs.Prelude.{◌≡◌, ◌≢◌, ℕ, ◌<◌, List, [], ◌∷◌, ◌++◌, length, map, Some, IsTrue, false, slice_get, codes, decimal}
+use Rattle.std.specs.Prelude.{◌≡◌, ◌≢◌, ℕ, ◌+◌, ◌/◌, ◌%◌, ◌<◌, ◌≤◌, List, [], ◌∷◌, ◌++◌, length, map, Some, IsTrue, false, slice_get, codes, decimal}
 use Rattle.asm_token.specs.Tokens.{Token, Name, IsToken, spelling}
 use Rattle.rtl_tree.specs.Trees.{AnyNumber, Read}
 use Rattle.rtl_tree.specs.Moves.{ToCell}
@@ -24,12 +24,27 @@ pub record IsSpelledToken (bytes : List ℕ) (t : Token) : Type 0 where
   pub token : IsToken t
   pub text : bytes ≡ spelling t
 
+-- a name that a register may have
+pub record IsRegisterName (name : List ℕ) : Type 0 where
+  pub token : IsToken (Name name)
+  pub free : is_reserved name ≡ false
+
 -- the line gives a number and a name to the result register
 pub record IsRegisterLine (bytes : List ℕ) (number : ℕ) (name : List ℕ) : Type 0 where
   pub text : bytes ≡ codes "reg " ++ decimal number ++ codes " " ++ name ++ codes " result"
   pub below : number < 64
-  pub token : IsToken (Name name)
-  pub free : is_reserved name ≡ false
+  pub named : IsRegisterName name
+
+-- sizes of whole words, where memory has at most so many bytes
+pub record AreSizes (f : FirstForm) (most : ℕ) : Type 0 where
+  pub memory_words : f.memory % (f.word / 8) ≡ 0
+  pub data_words : f.data_begin % (f.word / 8) ≡ 0
+  pub stack_words : f.stack % (f.word / 8) ≡ 0
+  pub memory_least : 4096 ≤ f.memory
+  pub memory_most : f.memory ≤ most
+  pub stack_least : 1024 ≤ f.stack
+  pub stack_most : f.stack ≤ 1048576
+  pub room : f.data_begin + f.stack < f.memory
 
 -- the first seven of these lines are the form's
 pub record SpellsHeading (lines : List (List ℕ)) (f : FirstForm) : Type 0 where

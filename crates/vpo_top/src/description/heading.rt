@@ -3,7 +3,7 @@
 ghost use Rattle.std.specs.Prelude.{◌≡◌, ◌≢◌, ◌<◌, ◌≤◌, ◌%◌, ◌/◌, ◌⊎◌, ◌^◌, ◌↔◌, ℕ, List, ◌++◌, Some, IfSome, IfNone, IsTrue, decimal, slice_get, length, codes};
 ghost use Rattle.asm_token.specs.Tokens.{Name, IsToken};
 ghost use Rattle.vpo_top.specs.FirstDescription.{FirstForm, AreNumbers};
-ghost use Rattle.vpo_top.specs.DescriptionParts.{texts, IsRegisterLine, SpellsHeading, heading_form};
+ghost use Rattle.vpo_top.specs.DescriptionParts.{texts, IsRegisterName, IsRegisterLine, SpellsHeading, AreSizes, heading_form};
 
 use crate::description::fields::{after, before, is_name, is_reserved, number};
 use crate::description::lines::{COUNT, Lines, split_at_byte};
@@ -61,6 +61,13 @@ fn machine_name<'a>(lines: &Lines<'a>) -> Option<&'a [u8]>
     if is_name(name) { Some(name) } else { None }
 }
 
+/// Whether a register may have this name.
+fn is_register_name(name: &[u8]) -> bool
+    ensures { IsTrue result ↔ IsRegisterName name.now }
+{
+    if is_name(name) { !is_reserved(name) } else { false }
+}
+
 fn register_of(line: &[u8]) -> Option<ResultRegister<'_>>
     ensures found { IfSome result (λ r. IsRegisterLine line.now r.number r.name.now) }
     ensures digits { IfSome result (λ r. r.digits.now ≡ decimal r.number) }
@@ -69,35 +76,48 @@ fn register_of(line: &[u8]) -> Option<ResultRegister<'_>>
     let text = before(after(line, b"reg ")?, b" result")?;
     let (digits, name) = split_at_byte(text, b' ')?;
     let number = number(digits)?;
-    if number < 64 && is_name(name) && !is_reserved(name) {
-        Some(ResultRegister { number: number as u8, name, digits })
+    if !is_register_name(name) {
+        return None;
+    }
+    if number < 64 {
+        Some(ResultRegister {
+            number: number as u8,
+            name,
+            digits,
+        })
     } else {
         None
     }
 }
 
-/// Whether a size is one of the least to the most, and of whole words.
-fn is_size(size: u32, word: u32, least: u32, most: u32) -> bool
-    requires { (word ≡ 16) ⊎ (word ≡ 32) }
-    ensures { IsTrue result ↔ ((size % (word / 8) ≡ 0) × (least ≤ size) × (size ≤ most)) }
+/// Whether the sizes are of whole words and within their bounds, and leave room between data and stack.
+fn are_sizes(heading: &Heading<'_>, most: u32) -> bool
+    requires { (heading.now.word ≡ 16) ⊎ (heading.now.word ≡ 32) }
+    ensures { IsTrue result ↔ AreSizes (heading_form heading.now) most }
 {
-    size % (word / 8) == 0 && least <= size && size <= most
+    let Heading {
+        word,
+        memory,
+        base,
+        stack,
+        ..
+    } = *heading;
+    let bytes = word / 8;
+    let whole = memory % bytes == 0 && base % bytes == 0 && stack % bytes == 0;
+    let bounded = 4096 <= memory && memory <= most && 1024 <= stack && stack <= 1_048_576;
+    whole && bounded && base < memory && stack < memory - base
 }
 
-/// Whether the sizes are of whole words and within their bounds, and leave room between data and stack.
+/// Whether the heading's numbers are those of a machine.
 fn are_numbers(heading: &Heading<'_>) -> bool
     requires { heading.now.register < 64 }
     ensures { IsTrue result ↔ AreNumbers (heading_form heading.now) }
 {
-    let Heading { word, memory, base, stack, .. } = *heading;
-    if word != 16 && word != 32 {
-        return false;
+    match heading.word {
+        16 => are_sizes(heading, 65534),
+        32 => are_sizes(heading, 16_777_216),
+        _ => false,
     }
-    let most = if word == 16 { 65534 } else { 16_777_216 };
-    is_size(memory, word, 4096, most)
-        && is_size(base, word, 0, most)
-        && is_size(stack, word, 1024, 1_048_576)
-        && u64::from(base) + u64::from(stack) < u64::from(memory)
 }
 
 /// What the heading says, where it is one.

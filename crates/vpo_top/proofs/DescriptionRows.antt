@@ -66,3 +66,8 @@ row_lines_once lines digits t u p q =
       (hole_at p.set_text q.set_text t.before_hole t.after_hole u.before_hole u.after_hole set p.hole q.hole)
       (row_at [] p.put_line q.put_line (codes " | OUT = r[") digits (codes "]") t.put u.put (some_same p.put_line q.put_line (slice_get lines 8) p.put_at q.put_at) p.put_is q.put_is)
       (row_at [] p.end_line q.end_line (codes " | HALT = r[") digits (codes "]") t.«end» u.«end» (some_same p.end_line q.end_line (slice_get lines 9) p.end_at q.end_at) p.end_is q.end_is)
+
+pub row_line_at : (lines : List (List ℕ)) (at : ℕ) (l m goal digits ending x : List ℕ) → slice_get lines at ≡ Some l → slice_get lines at ≡ Some m → IsRowLine m goal digits ending x → IsRowLine l goal digits ending x
+row_line_at lines at l m goal digits ending x e f h =
+    let P : List ℕ → Type 0 = λ n. IsRowLine n goal digits ending x in
+    subst P (some_same m l (slice_get lines at) f e) h

@@ -1,7 +1,7 @@
 -- How a text falls into lines.
 use Rattle.std.proofs.Common.{◌≡◌, ℕ, ◌+◌, ◌<◌, ◌≤◌, suc, List, [], ◌∷◌, ◌++◌, length, take, map, refl, sym, ap, subst, ◌∙◌, arith, rules, Bor}
 use Rattle.std.proofs.lemmas.Grind.{flat_map-append}
-use Rattle.std.proofs.lemmas.List.{append_assoc, take_more_set, map-append, append-nil}
+use Rattle.std.proofs.lemmas.List.{append_assoc, take_more_set, map-append, append-nil, length-map, length-take-le, take_all}
 use Rattle.std.proofs.lemmas.List.Elements.{All-head, All-tail, All-push, All-nil}
 use Rattle.std.specs.List.{All, flat_map, slice_set}
 use Rattle.vpo_top.specs.FirstDescription.{text_of}
@@ -94,3 +94,25 @@ pub long_line : (bytes front back : List ℕ) → IsSplitAtByte 10 bytes front b
 long_line bytes front back h l line rest f =
     let same = same_front 10 front line back rest h.first f.alone.whole (sym h.text ∙ f.text) in
     absurd (omega (arith, l, f.alone.short, ap length same.0))
+
+-- the places of an array of ten lines
+
+pub taken_count : (xs : List (Bor (List ℕ))) (i : ℕ) → length xs ≡ 10 → i ≤ 10 → length (map (λ x. x.now) (take i xs)) ≡ i
+taken_count xs i e l = length-map (take i xs) (λ x. x.now) ∙ length-take-le i xs (omega (arith, e, l))
+
+pub taken_whole : (bytes : List ℕ) (xs : List (Bor (List ℕ))) (i : ℕ) (rest : List ℕ) → length xs ≡ 10 → 10 ≤ i → TakenLines bytes (map (λ x. x.now) (take i xs)) rest → TakenLines bytes (map (λ x. x.now) xs) rest
+taken_whole bytes xs i rest e l h =
+    let P : List (Bor (List ℕ)) → Type 0 = λ ys. TakenLines bytes (map (λ x. x.now) ys) rest in
+    subst P (take_all i xs (omega (arith, e, l))) h
+
+no_bytes : (rest : List ℕ) → length rest ≡ 0 → rest ≡ []
+no_bytes [] e = refl
+no_bytes (b ∷ bs) e = absurd (omega (arith, e))
+
+pub lines_found : (bytes : List ℕ) (xs : List (Bor (List ℕ))) (i : ℕ) (rest : List ℕ) → length xs ≡ 10 → 10 ≤ i → length rest ≡ 0 → TakenLines bytes (map (λ x. x.now) (take i xs)) rest → AreTenLines bytes (map (λ x. x.now) xs)
+lines_found bytes xs i rest e l n h =
+    all_taken bytes (map (λ x. x.now) xs) rest (taken_whole bytes xs i rest e l h) (length-map xs (λ x. x.now) ∙ e) (no_bytes rest n)
+
+pub more_follows : (bytes : List ℕ) (xs : List (Bor (List ℕ))) (i : ℕ) (rest : List ℕ) → length xs ≡ 10 → 10 ≤ i → 0 < length rest → TakenLines bytes (map (λ x. x.now) (take i xs)) rest → (lines : List (List ℕ)) → AreTenLines bytes lines → ⊥
+more_follows bytes xs i rest e l n h =
+    too_long bytes (map (λ x. x.now) xs) rest (taken_whole bytes xs i rest e l h) (length-map xs (λ x. x.now) ∙ e) n

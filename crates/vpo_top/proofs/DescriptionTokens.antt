@@ -110,3 +110,43 @@ one_spelled bs t u p q = same_token t u p.token q.token (sym p.text ∙ q.text)
 
 pub number_spelled : (n : ℕ) → n < 2 ^ 32 → IsSpelledToken (decimal n) (Number (pos n))
 number_spelled n l = record { token = omega (arith, l); text = refl }
+
+-- what a token of another kind is not
+
+pub number_no_name : (bs : List ℕ) (z : ℤ) → IsSpelledToken bs (Number z) → IsToken (Name bs) → ⊥
+number_no_name bs z h n =
+    let same : Number z ≡ Name bs = one_spelled bs (Number z) (Name bs) h (record { token = n; text = refl }) in
+    let no : Number z ≡ Name bs → ⊥ = λ e. cc in
+    no same
+
+pub mark_no_name : (bs : List ℕ) (c : ℕ) → IsSpelledToken bs (Mark c) → IsToken (Name bs) → ⊥
+mark_no_name bs c h n =
+    let same : Mark c ≡ Name bs = one_spelled bs (Mark c) (Name bs) h (record { token = n; text = refl }) in
+    let no : Mark c ≡ Name bs → ⊥ = λ e. cc in
+    no same
+
+pub nothing_no_name : (bs : List ℕ) → ((t : Token) → IsSpelledToken bs t → ⊥) → IsToken (Name bs) → ⊥
+nothing_no_name bs none n = none (Name bs) (record { token = n; text = refl })
+
+pub is_number : (bs : List ℕ) (t : Token) (n : ℕ) → n < 2 ^ 32 → IsSpelledToken bs t → bs ≡ decimal n → t ≡ Number (pos n)
+is_number bs t n l h e = one_spelled bs t (Number (pos n)) h (record { token = omega (arith, l); text = e })
+
+pub name_no_number : (bs w : List ℕ) → IsSpelledToken bs (Name w) → (n : ℕ) → n < 2 ^ 32 → bs ≡ decimal n → ⊥
+name_no_number bs w h n l e =
+    let no : Name w ≡ Number (pos n) → ⊥ = λ q. cc in
+    no (is_number bs (Name w) n l h e)
+
+pub mark_no_number : (bs : List ℕ) (c : ℕ) → IsSpelledToken bs (Mark c) → (n : ℕ) → n < 2 ^ 32 → bs ≡ decimal n → ⊥
+mark_no_number bs c h n l e =
+    let no : Mark c ≡ Number (pos n) → ⊥ = λ q. cc in
+    no (is_number bs (Mark c) n l h e)
+
+pub nothing_no_number : (bs : List ℕ) → ((t : Token) → IsSpelledToken bs t → ⊥) → (n : ℕ) → n < 2 ^ 32 → bs ≡ decimal n → ⊥
+nothing_no_number bs none n l e = none (Number (pos n)) (record { token = omega (arith, l); text = e })
+
+pub number_is : (bs : List ℕ) (z : ℤ) → IsSpelledToken bs (Number z) → (n : ℕ) → n < 2 ^ 32 → bs ≡ decimal n → z ≡ pos n
+number_is bs z h n l e =
+    let same : Number z ≡ Number (pos n) = is_number bs (Number z) n l h e in cc
+
+pub no_truth : {A : Type 0} → false ≡ true → A
+no_truth e = let no : false ≡ true → ⊥ = λ q. cc in absurd (no e)

@@ -1,6 +1,3 @@
-mod Reports
-mod Lines
-pub mod SourceText
 mod DescriptionSplits
 mod DescriptionTenLines
 mod DescriptionTokens

@@ -104,14 +104,18 @@ pub record SpellsPieces (bytes : List ℕ) (pieces : List Piece) : Type 0 where
 abbrev pub BeginWithName : List Piece → List ℕ → Type 0
 BeginWithName pieces w = (rest : List Piece) × (pieces ≡ NamePiece w ∷ rest)
 
+-- the three texts begin with these names
+pub record BeginWithNames (set put «end» : List Piece) (set_name put_name end_name : List ℕ) : Type 0 where
+  pub set_begins : BeginWithName set set_name
+  pub put_begins : BeginWithName put put_name
+  pub end_begins : BeginWithName «end» end_name
+
 -- the three texts begin with different names
 pub record BeginDifferently (set put «end» : List Piece) : Type 0 where
   pub set_name : List ℕ
   pub put_name : List ℕ
   pub end_name : List ℕ
-  pub set_begins : BeginWithName set set_name
-  pub put_begins : BeginWithName put put_name
-  pub end_begins : BeginWithName «end» end_name
+  pub begin : BeginWithNames set put «end» set_name put_name end_name
   pub set_put : set_name ≢ put_name
   pub set_end : set_name ≢ end_name
   pub put_end : put_name ≢ end_name

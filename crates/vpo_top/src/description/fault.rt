@@ -13,7 +13,9 @@ pub enum DescriptionFault {
 }
 
 impl From<AllocError> for DescriptionFault {
-    ghost from_gives = { λ _ fault. fault ≡ DescriptionFault.NoMemory };
+    ghost use Rattle.vpo_top.specs.declared.description.fault.DescriptionFault.TheVariants.{NoMemory};
+
+    ghost from_gives = { λ _ fault. fault ≡ NoMemory };
 
     fn from(_: AllocError) -> DescriptionFault {
         DescriptionFault::NoMemory

@@ -1,6 +1,6 @@
 //! Parts of a line.
 
-ghost use Rattle.std.specs.Prelude.{◌≡◌, ◌≢◌, ◌<◌, ◌^◌, ◌↔◌, ℕ, List, ◌++◌, Some, IfSome, IfNone, MatchOption, IsTrue, decimal, slice_get, length};
+ghost use Rattle.std.specs.Prelude.{◌≡◌, ◌≢◌, ◌<◌, ◌^◌, ◌↔◌, ℕ, pos, List, ◌++◌, Some, IfSome, IfNone, MatchOption, IsTrue, decimal, slice_get, length};
 ghost use Rattle.std.specs.List.{list_all};
 ghost use Rattle.asm_token.specs.Seen.{token_of};
 ghost use Rattle.asm_token.specs.Tokens.{Token as Spelled, Name, IsToken};
@@ -36,18 +36,34 @@ fn whole_token(text: &[u8]) -> Option<Token<'_>>
 pub fn is_name(text: &[u8]) -> bool
     ensures { IsTrue result ↔ IsToken (Name text.now) }
 {
-    matches!(whole_token(text), Some(Token::Name(_)))
+    match whole_token(text) {
+        Some(Token::Name(_)) => true,
+        Some(Token::Number(_)) => false,
+        Some(Token::Mark(_)) => false,
+        None => false,
+    }
+}
+
+/// The number, where it is less than 2^32 and has no sign.
+fn small_number(number: i64) -> Option<u32>
+    ensures found { IfSome result (λ n. (number ≡ pos n) × (n < 2 ^ 32)) }
+    ensures none { IfNone result ((n : ℕ) → n < 2 ^ 32 → number ≢ pos n) }
+{
+    u32::try_from(number).ok()
 }
 
 /// The number that the text spells without a sign or needless zeros, where it is less than 2^32.
 pub fn number(text: &[u8]) -> Option<u32>
     ensures found { IfSome result (λ n. text.now ≡ decimal n) }
+    ensures small { IfSome result (λ n. n < 2 ^ 32) }
     ensures none { IfNone result ((n : ℕ) → n < 2 ^ 32 → text.now ≢ decimal n) }
 {
-    let Some(Token::Number(number)) = whole_token(text) else {
-        return None;
-    };
-    u32::try_from(number).ok()
+    match whole_token(text) {
+        Some(Token::Number(number)) => small_number(number),
+        Some(Token::Name(_)) => None,
+        Some(Token::Mark(_)) => None,
+        None => None,
+    }
 }
 
 /// Whether no blank stands at the begin or the end.

@@ -42,6 +42,7 @@ pub fn line_at<'a>(lines: &Lines<'a>, at: usize) -> &'a [u8]
 fn number_at(lines: &Lines<'_>, at: usize, word: &[u8]) -> Option<u32>
     requires { at < COUNT }
     ensures found { IfSome result (λ n. slice_get (texts lines.now) at ≡ Some (word.now ++ decimal n)) }
+    ensures small { IfSome result (λ n. n < 2 ^ 32) }
     ensures none { IfNone result ((n : ℕ) → n < 2 ^ 32 → slice_get (texts lines.now) at ≢ Some (word.now ++ decimal n)) }
 {
     number(after(line_at(lines, at), word)?)

@@ -1,10 +1,10 @@
 //! The pieces of the rows' texts.
 
-ghost use Rattle.std.specs.Prelude.{◌≡◌, ◌↔◌, ℕ, List, false, IfSome, IfNone, IfOk, IsErrOf, IsTrue};
+ghost use Rattle.std.specs.Prelude.{◌≡◌, ◌↔◌, ℕ, List, false, IfSome, IfNone, IfOk, IsErrOf, IsTrue, MatchBool};
 ghost use Rattle.asm_token.specs.Seen.{token_of};
 ghost use Rattle.asm_token.specs.Tokens.{Token as Spelled};
 ghost use Rattle.vpo_top.specs.FirstDescription.{FirstForm, SpellsLiterals, is_literal, piece_of};
-ghost use Rattle.vpo_top.specs.DescriptionParts.{texts_of, SpellsPieces, BeginWithName, BeginDifferently, SpellsRoundHole, AreRowPieces, SpellsTexts};
+ghost use Rattle.vpo_top.specs.DescriptionParts.{texts_of, SpellsPieces, BeginWithName, BeginWithNames, BeginDifferently, SpellsRoundHole, AreRowPieces, SpellsTexts};
 
 use crate::description::fault::DescriptionFault;
 use crate::description::fields::is_reserved;
@@ -67,20 +67,25 @@ fn first_name(pieces: &Items<Piece>) -> Option<&[u8]>
     }
 }
 
+/// The names with which the rows begin.
+fn first_names(pieces: &RowPieces) -> Option<(&[u8], &[u8], &[u8])>
+    ensures found { IfSome result (λ names. BeginWithNames pieces.now.set pieces.now.put pieces.now.end names.0.now names.1.now names.2.now) }
+    ensures none { IfNone result ((set put end_ : List ℕ) → BeginWithNames pieces.now.set pieces.now.put pieces.now.end set put end_ → ⊥) }
+{
+    let set = first_name(&pieces.set)?;
+    let put = first_name(&pieces.put)?;
+    let end = first_name(&pieces.end)?;
+    Some((set, put, end))
+}
+
 /// Whether the rows begin with different names.
 fn begin_differently(pieces: &RowPieces) -> bool
-    ensures { IsTrue result ↔ BeginDifferently pieces.now.set pieces.now.put pieces.now.end }
+    ensures { MatchBool result (BeginDifferently pieces.now.set pieces.now.put pieces.now.end) (BeginDifferently pieces.now.set pieces.now.put pieces.now.end → ⊥) }
 {
-    let Some(set) = first_name(&pieces.set) else {
-        return false;
-    };
-    let Some(put) = first_name(&pieces.put) else {
-        return false;
-    };
-    let Some(end) = first_name(&pieces.end) else {
-        return false;
-    };
-    set != put && set != end && put != end
+    match first_names(pieces) {
+        Some((set, put, end)) => set != put && set != end && put != end,
+        None => false,
+    }
 }
 
 /// The pieces of the first row, which has a hole between two texts.

@@ -1,14 +1,16 @@
 -- Reading a text of literal tokens, one by one.
-use Rattle.std.proofs.Common.{◌≡◌, ◌≢◌, ℕ, ◌+◌, ◌<◌, ◌≤◌, Bool, true, false, ◌&&◌, List, [], ◌∷◌, ◌++◌, length, drop, map, refl, sym, ap, subst, ◌∙◌, arith, rules}
-use Rattle.std.proofs.lemmas.Bool.{and_parts, both_ways}
+use Rattle.std.proofs.Common.{◌≡◌, ◌≢◌, ℕ, ◌+◌, ◌-◌, ◌<◌, ◌≤◌, Some, None, take, slice_get, length-append, eq-eqb, Bool, true, false, ◌&&◌, List, [], ◌∷◌, ◌++◌, length, drop, map, refl, sym, ap, subst, ◌∙◌, arith, rules}
+use Rattle.std.proofs.lemmas.Bool.{and_parts, both_ways, ne_eqb}
 use Rattle.std.proofs.lemmas.List.{append_assoc, append-nil, map-append}
 use Rattle.std.proofs.lemmas.List.Folds.{list_all-append}
 use Rattle.std.specs.List.{list_all}
 use Rattle.asm_token.specs.Tokens.{Token, Name, Number, Mark, IsToken, spelling, LongestToken, BeginsNoToken, Spells, at_end, after_gap, one_token, is_blank}
+use Rattle.asm_token.proofs.Lengths.{token_nonempty}
 use Rattle.asm_token.proofs.Steps.{Next, past_gap, past_token, no_tokens, nothing_left, blank_is_gap, spelled_once}
 use Rattle.md_rows.specs.declared.row.Piece.{Piece}
 use Rattle.vpo_top.specs.FirstDescription.{is_literal, piece_of, SpellsLiterals}
 use Rattle.vpo_top.specs.DescriptionParts.{SpellsPieces}
+use Rattle.vpo_top.proofs.DescriptionSplits.{tail_is}
 
 -- the tokens of a text are these and then those of the rest
 pub record Follows (bytes rest : List ℕ) (ts vs : List Token) : Type 0 where
@@ -97,3 +99,38 @@ not_literal bytes rest t n pieces h l r ts s =
 
 pub literals_once : (bytes : List ℕ) (ts us : List Token) → SpellsLiterals bytes ts → SpellsLiterals bytes us → ts ≡ us
 literals_once bytes ts us p q = spelled_once is_blank bytes ts us blank_is_gap p.spells q.spells
+
+-- as slices
+
+first_is : (rest : List ℕ) (c : ℕ) → Some c ≡ slice_get rest 0 → rest ≡ c ∷ drop 1 rest
+first_is [] c e = let no : Some c ≡ None → ⊥ = λ q. cc in absurd (no e)
+first_is (b ∷ bs) c e = let same : c ≡ b = cc in ap (λ d. d ∷ bs) (sym same)
+
+pub blank_taken : (bytes rest : List ℕ) (c : ℕ) (pieces : List Piece) → Some c ≡ slice_get rest 0 → c ≡ 32 → ReadSoFar bytes rest pieces → ReadSoFar bytes (take (length rest - 1) (drop 1 rest)) pieces
+blank_taken bytes rest c pieces e b r =
+    let P : List ℕ → Type 0 = λ bs. ReadSoFar bytes bs pieces in
+    subst P (sym (tail_is 1 rest)) (blank_read bytes rest (drop 1 rest) c pieces (first_is rest c e) (eq-eqb c 32 b) r)
+
+pub token_taken : (bytes rest : List ℕ) (t : Token) (n : ℕ) (pieces more : List Piece) (p : Piece) → more ≡ pieces ++ p ∷ [] → LongestToken rest t n → is_literal t ≡ true → p ≡ piece_of t → ReadSoFar bytes rest pieces → ReadSoFar bytes (take (length rest - n) (drop n rest)) more
+token_taken bytes rest t n pieces more p m h l q r =
+    let P : List ℕ → Type 0 = λ bs. ReadSoFar bytes bs more in
+    let Q : List Piece → Type 0 = λ ps. ReadSoFar bytes (drop n rest) ps in
+    subst P (sym (tail_is n rest)) (subst Q (sym m) (token_read bytes rest t n pieces p h l q r))
+
+pub token_shorter : (rest : List ℕ) (t : Token) (n : ℕ) → LongestToken rest t n → length (take (length rest - n) (drop n rest)) < length rest
+token_shorter rest t n h =
+    let some : 0 < length (spelling t) = token_nonempty t h.is_token in
+    let whole : length rest ≡ length (spelling t) + length (drop n rest) = ap length h.spelled ∙ length-append (spelling t) (drop n rest) in
+    let same : length (take (length rest - n) (drop n rest)) ≡ length (drop n rest) = ap length (tail_is n rest) in
+    omega (arith, some, whole, same)
+
+nothing_first : (rest : List ℕ) → None ≡ slice_get rest 0 → rest ≡ []
+nothing_first [] e = refl
+nothing_first (b ∷ bs) e = let no : None ≡ Some b → ⊥ = λ q. cc in absurd (no e)
+
+pub read_to_end : (bytes rest : List ℕ) (pieces : List Piece) → None ≡ slice_get rest 0 → ReadSoFar bytes rest pieces → SpellsPieces bytes pieces
+read_to_end bytes rest pieces e r = all_read bytes rest pieces (nothing_first rest e) r
+
+pub no_token_follows : (bytes rest : List ℕ) (c : ℕ) (pieces : List Piece) → Some c ≡ slice_get rest 0 → (c ≡ 32 → ⊥) → BeginsNoToken rest → ReadSoFar bytes rest pieces → (ts : List Token) → SpellsLiterals bytes ts → ⊥
+no_token_follows bytes rest c pieces e d n r ts s =
+    no_more bytes rest (drop 1 rest) c pieces (first_is rest c e) (ne_eqb c 32 d) n r ts s

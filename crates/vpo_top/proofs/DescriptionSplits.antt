@@ -69,3 +69,7 @@ rest_from n t =
 
 pub split_at_place : (b : ℕ) (t : List ℕ) (n : ℕ) → Some n ≡ position (λ c. eqb c b) t → IsSplitAtByte b t (take n t) (take (length t - (n + 1)) (drop (n + 1) t))
 split_at_place b t n e = rw (rest_from n t) (split_found b t n (sym e))
+
+-- a slice from k on
+pub tail_is : (k : ℕ) (t : List ℕ) → take (length t - k) (drop k t) ≡ drop k t
+tail_is k t = ap (λ n. take n (drop k t)) (sym (length-drop k t)) ∙ take-length (drop k t)

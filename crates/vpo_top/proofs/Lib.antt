@@ -5,3 +5,5 @@ mod DescriptionHeading
 mod DescriptionRows
 mod DescriptionPieces
 mod DescriptionWhole
+mod DescriptionNames
+mod DescriptionFound

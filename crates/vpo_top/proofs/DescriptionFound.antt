@@ -1,12 +1,11 @@
 -- What is read is a description.
-use Rattle.std.proofs.Common.{◌≡◌, ◌≢◌, ℕ, ◌+◌, ◌<◌, ◌≤◌, suc, Some, Option, List, [], ◌∷◌, ◌++◌, length, map, refl, sym, ap, subst, ◌∙◌, arith, rules, codes, slice_get}
+use Rattle.std.proofs.Common.{◌≡◌, ℕ, ◌≤◌, suc, Some, List, [], ◌∷◌, ◌++◌, length, refl, ap, subst, ◌∙◌, arith, codes, slice_get}
 use Rattle.std.proofs.lemmas.List.Elements.{All-weaker}
 use Rattle.std.specs.Fmt.{decimal}
 use Rattle.std.specs.List.{All}
-use Rattle.md_rows.specs.declared.description.RawDescription.{RawDescription}
 use Rattle.md_rows.specs.declared.row.Piece.{Piece}
 use Rattle.vpo_top.specs.declared.description.heading.Heading.{Heading}
-use Rattle.vpo_top.specs.FirstDescription.{FirstForm, RowTexts, lines_of, text_of, SpellsForm, HasNoOuterBlank, IsDescription, piece_of, description_of}
+use Rattle.vpo_top.specs.FirstDescription.{FirstForm, RowTexts, lines_of, text_of, SpellsForm, HasNoOuterBlank, IsDescription}
 use Rattle.vpo_top.specs.DescriptionLines.{IsLine, AreTenLines}
 use Rattle.vpo_top.specs.DescriptionParts.{heading_form, SpellsHeading, AreRowLines, AreRowPieces, described}
 use Rattle.vpo_top.proofs.DescriptionNames.{names_of_pieces}

@@ -1,10 +1,10 @@
 -- What the lines of a heading say is one thing at most.
-use Rattle.std.proofs.Common.{◌≡◌, ◌≢◌, ℕ, ◌+◌, ◌-◌, ◌/◌, ◌%◌, ◌^◌, ◌<◌, ◌≤◌, suc, ℤ, pos, Bool, true, false, cond, eqb, Option, Some, None, List, [], ◌∷◌, ◌++◌, length, refl, sym, ap, subst, ◌∙◌, arith, rules, inl, inr, ◌⊎◌, IfNone, codes, slice_get}
+use Rattle.std.proofs.Common.{◌≡◌, ℕ, ◌^◌, ◌<◌, ◌≤◌, Bool, true, false, cond, eqb, Option, Some, None, List, [], ◌∷◌, ◌++◌, refl, sym, ap, subst, ◌∙◌, arith, inl, inr, ◌⊎◌, IfNone, codes, slice_get}
 use Rattle.std.proofs.lemmas.List.{append_assoc, append_cancel_left, append_cancel_right}
 use Rattle.std.proofs.lemmas.Fmt.{decimal_injective}
 use Rattle.std.specs.Fmt.{decimal}
 use Rattle.vpo_top.specs.FirstDescription.{FirstForm, AreNumbers}
-use Rattle.vpo_top.specs.DescriptionLines.{lacks, IsSplitAtByte}
+use Rattle.vpo_top.specs.DescriptionLines.{IsSplitAtByte}
 use Rattle.vpo_top.specs.DescriptionParts.{IsRegisterLine, SpellsHeading, AreSizes}
 use Rattle.vpo_top.proofs.DescriptionSplits.{same_front}
 use Rattle.vpo_top.proofs.DescriptionTokens.{decimal_lacks}

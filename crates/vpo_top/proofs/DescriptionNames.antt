@@ -1,10 +1,10 @@
 -- The names with which rows begin, and refusals that are passed on.
-use Rattle.std.proofs.Common.{◌≡◌, ◌≢◌, ℕ, List, [], ◌∷◌, ◌++◌, map, refl, sym, ap, subst, ◌∙◌, Result, Err}
+use Rattle.std.proofs.Common.{◌≡◌, ℕ, List, [], ◌∷◌, ◌++◌, map, sym, ap, subst, ◌∙◌, Result, Err}
 use Rattle.asm_token.specs.Tokens.{Token, Name, Number, Mark}
 use Rattle.md_rows.specs.declared.row.Piece.{Piece}
 use Rattle.md_rows.specs.declared.row.Piece.TheVariants.{Name as NamePiece, Num as NumPiece, Byte as BytePiece, Hole as HolePiece}
 use Rattle.vpo_top.specs.FirstDescription.{FirstForm, RowTexts, HaveNames, BeginsWith, piece_of}
-use Rattle.vpo_top.specs.DescriptionParts.{SpellsPieces, SpellsRoundHole, BeginWithName, BeginWithNames, BeginDifferently, AreRowPieces, SpellsTexts}
+use Rattle.vpo_top.specs.DescriptionParts.{SpellsPieces, SpellsRoundHole, BeginWithName, BeginDifferently, AreRowPieces, SpellsTexts}
 use Rattle.vpo_top.proofs.DescriptionPieces.{literals_once}
 
 pub err_same : {T E : Type 0} (r : Result T E) (y x : E) → r ≡ Err y → r ≡ Err x → y ≡ x

@@ -1,12 +1,12 @@
 -- Reading a text of literal tokens, one by one.
-use Rattle.std.proofs.Common.{◌≡◌, ◌≢◌, ℕ, ◌+◌, ◌-◌, ◌<◌, ◌≤◌, Some, None, take, slice_get, length-append, eq-eqb, Bool, true, false, ◌&&◌, List, [], ◌∷◌, ◌++◌, length, drop, map, refl, sym, ap, subst, ◌∙◌, arith, rules}
+use Rattle.std.proofs.Common.{◌≡◌, ℕ, ◌+◌, ◌-◌, ◌<◌, Some, None, take, slice_get, length-append, eq-eqb, true, false, List, [], ◌∷◌, ◌++◌, length, drop, map, refl, sym, ap, subst, ◌∙◌, arith}
 use Rattle.std.proofs.lemmas.Bool.{and_parts, both_ways, ne_eqb}
 use Rattle.std.proofs.lemmas.List.{append_assoc, append-nil, map-append}
 use Rattle.std.proofs.lemmas.List.Folds.{list_all-append}
 use Rattle.std.specs.List.{list_all}
-use Rattle.asm_token.specs.Tokens.{Token, Name, Number, Mark, IsToken, spelling, LongestToken, BeginsNoToken, Spells, at_end, after_gap, one_token, is_blank}
+use Rattle.asm_token.specs.Tokens.{Token, spelling, LongestToken, BeginsNoToken, Spells, at_end, after_gap, one_token, is_blank}
 use Rattle.asm_token.proofs.Lengths.{token_nonempty}
-use Rattle.asm_token.proofs.Steps.{Next, past_gap, past_token, no_tokens, nothing_left, blank_is_gap, spelled_once}
+use Rattle.asm_token.proofs.Steps.{past_gap, past_token, no_tokens, blank_is_gap, spelled_once}
 use Rattle.md_rows.specs.declared.row.Piece.{Piece}
 use Rattle.vpo_top.specs.FirstDescription.{is_literal, piece_of, SpellsLiterals}
 use Rattle.vpo_top.specs.DescriptionParts.{SpellsPieces}

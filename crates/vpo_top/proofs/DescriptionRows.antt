@@ -1,8 +1,8 @@
 -- The texts of the rows are found in one way at most.
-use Rattle.std.proofs.Common.{◌≡◌, ◌≢◌, ℕ, List, [], ◌∷◌, ◌++◌, refl, sym, ap, subst, ◌∙◌, arith, rules, codes, slice_get, Some}
+use Rattle.std.proofs.Common.{◌≡◌, ℕ, List, [], ◌∷◌, ◌++◌, refl, sym, ap, subst, ◌∙◌, codes, slice_get, Some}
 use Rattle.std.proofs.lemmas.List.{append_assoc, append_cancel_left, append_cancel_right}
 use Rattle.vpo_top.specs.FirstDescription.{RowTexts}
-use Rattle.vpo_top.specs.DescriptionLines.{lacks, IsSplitAtByte}
+use Rattle.vpo_top.specs.DescriptionLines.{IsSplitAtByte}
 use Rattle.vpo_top.specs.DescriptionParts.{IsRowLine, IsRoundHole, AreRowLines}
 use Rattle.vpo_top.proofs.DescriptionHeading.{split_once, some_same}
 

@@ -1,11 +1,11 @@
 -- How a text falls into lines.
-use Rattle.std.proofs.Common.{◌≡◌, ℕ, ◌+◌, ◌<◌, ◌≤◌, suc, List, [], ◌∷◌, ◌++◌, length, take, map, refl, sym, ap, subst, ◌∙◌, arith, rules, Bor}
+use Rattle.std.proofs.Common.{◌≡◌, ℕ, ◌+◌, ◌<◌, ◌≤◌, List, [], ◌∷◌, ◌++◌, length, take, map, refl, sym, ap, subst, ◌∙◌, arith, Bor}
 use Rattle.std.proofs.lemmas.Grind.{flat_map-append}
 use Rattle.std.proofs.lemmas.List.{append_assoc, take_more_set, map-append, append-nil, length-map, length-take-le, take_all}
 use Rattle.std.proofs.lemmas.List.Elements.{All-head, All-tail, All-push, All-nil}
-use Rattle.std.specs.List.{All, flat_map, slice_set}
+use Rattle.std.specs.List.{All, slice_set}
 use Rattle.vpo_top.specs.FirstDescription.{text_of}
-use Rattle.vpo_top.specs.DescriptionLines.{lacks, IsSplitAtByte, IsLine, IsFirstLine, AreTenLines}
+use Rattle.vpo_top.specs.DescriptionLines.{IsSplitAtByte, IsLine, IsFirstLine, AreTenLines}
 use Rattle.vpo_top.proofs.DescriptionSplits.{same_front}
 
 -- these lines are taken from the text, and this is left

@@ -1,21 +1,19 @@
 -- The text of a description says one thing at most, line by line.
-use Rattle.std.proofs.Common.{◌≡◌, ◌≢◌, ℕ, ◌+◌, ◌^◌, ◌<◌, ◌≤◌, suc, Bool, true, false, ◌&&◌, Some, None, List, [], ◌∷◌, ◌++◌, length, map, refl, sym, ap, subst, ◌∙◌, arith, rules, codes, slice_get}
+use Rattle.std.proofs.Common.{◌≡◌, ℕ, ◌^◌, ◌<◌, ◌≤◌, Bool, true, ◌&&◌, Some, List, [], ◌∷◌, ◌++◌, length, refl, sym, ap, subst, ◌∙◌, arith, codes, slice_get}
 use Rattle.std.proofs.lemmas.Bool.{and_parts}
 use Rattle.std.proofs.lemmas.Fmt.{decimal_injective}
 use Rattle.std.proofs.lemmas.List.{append_cancel_left}
-use Rattle.std.proofs.lemmas.List.Elements.{All-head, All-tail, All-cons, All-nil, All-weaker}
+use Rattle.std.proofs.lemmas.List.Elements.{All-head, All-tail, All-cons, All-nil}
 use Rattle.std.specs.Fmt.{decimal}
 use Rattle.std.specs.List.{All, list_all}
-use Rattle.asm_token.specs.Tokens.{Token, Name, IsToken, is_blank}
+use Rattle.asm_token.specs.Tokens.{Token, Name, IsToken}
 use Rattle.md_rows.specs.declared.description.RawDescription.{RawDescription}
-use Rattle.md_rows.specs.declared.row.Piece.{Piece}
-use Rattle.md_rows.specs.declared.row.Piece.TheVariants.{Name as NamePiece, Hole as HolePiece}
-use Rattle.vpo_top.specs.FirstDescription.{FirstForm, RowTexts, lines_of, text_of, AreNumbers, SpellsForm, SpellsLiterals, IsDescription, HaveNames, BeginsWith, piece_of, description_of}
+use Rattle.vpo_top.specs.FirstDescription.{FirstForm, RowTexts, lines_of, SpellsForm, SpellsLiterals, IsDescription, description_of}
 use Rattle.vpo_top.specs.DescriptionLines.{lacks, IsLine, AreTenLines}
-use Rattle.vpo_top.specs.DescriptionParts.{IsRegisterLine, SpellsHeading, AreRowLines, IsRowLine, IsRoundHole, SpellsTexts}
+use Rattle.vpo_top.specs.DescriptionParts.{IsRegisterLine, SpellsHeading, AreRowLines, SpellsTexts}
 use Rattle.vpo_top.proofs.DescriptionTokens.{lacks_both, token_lacks, decimal_lacks, spells_lacks}
 use Rattle.vpo_top.proofs.DescriptionTenLines.{ten_lines_once}
-use Rattle.vpo_top.proofs.DescriptionHeading.{some_same, AreSmall, numbers_small, register_same, register_number}
+use Rattle.vpo_top.proofs.DescriptionHeading.{some_same, numbers_small, register_same}
 use Rattle.vpo_top.proofs.DescriptionRows.{row_lines_once}
 use Rattle.vpo_top.proofs.DescriptionPieces.{literals_once}
 

@@ -1,5 +1,5 @@
 -- What the lines of a description say, one by one.
-use Rattle.std.specs.Prelude.{◌≡◌, ◌≢◌, ℕ, ◌+◌, ◌/◌, ◌%◌, ◌<◌, ◌≤◌, List, [], ◌∷◌, ◌++◌, length, map, Some, IsTrue, false, slice_get, codes, decimal}
+use Rattle.std.specs.Prelude.{◌≡◌, ◌≢◌, ℕ, ◌+◌, ◌/◌, ◌%◌, ◌<◌, ◌≤◌, List, [], ◌∷◌, ◌++◌, map, Some, IsTrue, false, slice_get, codes, decimal}
 use Rattle.asm_token.specs.Tokens.{Token, Name, IsToken, spelling}
 use Rattle.rtl_tree.specs.Trees.{AnyNumber, Read}
 use Rattle.rtl_tree.specs.Moves.{ToCell}

@@ -1,6 +1,7 @@
-use Rattle.std.proofs.Common.{Err, ap, sym, ◌∙◌}
+use Rattle.std.proofs.Common.{Err, ap, subst, sym, ◌∙◌}
 use Rattle.std.proofs.lemmas.Result.{err_from_is_err_and}
 use Rattle.vpo_top.specs.declared.description.fault.DescriptionFault.TheVariants.{Refused}
+use Rattle.vpo_top.specs.FirstDescription.{IsDescription}
 use Rattle.vpo_top.specs.DescriptionParts.{texts, heading_form, texts_of}
 use Rattle.vpo_top.proofs.DescriptionNames.{err_same}
 use Rattle.vpo_top.proofs.DescriptionWhole.{lines_refused, heading_refused, rows_refused, pieces_refused}
@@ -28,4 +29,8 @@ returns-in_err-pieces-clause-refused c = λ e d h.
       (c.in_err-pieces.ensures.refused (ap Err (sym p.2 ∙ same))) d h
 
 pub returns-clause-found : goal.returns-clause-found
-returns-clause-found c = ?
+returns-clause-found c =
+    subst (IsDescription c.args.text.now) (sym c.in_ok-describe.ensures)
+      (description_read c.args.text.now (texts c.in-Some.lines) c.in-Some-read_heading.heading c.in-Some-read_heading.heading.digits.now (texts_of c.in-Some-row_texts.texts)
+        c.in_ok-pieces.pieces.set c.in_ok-pieces.pieces.put c.in_ok-pieces.pieces.end c.in_ok-pieces.ensures.found c.in-Some.ensures.found
+        c.in-Some-read_heading.ensures.found c.in-Some-read_heading.ensures.digits c.in-Some-row_texts.ensures.found)

@@ -1,4 +1,4 @@
-use Rattle.std.proofs.Common.{◌≡◌, pos, arith, rules, w64}
+use Rattle.std.proofs.Common.{◌≡◌, pos, arith, w64}
 use Rattle.std.proofs.lemmas.Int.{to_z_pos}
 use Rattle.vpo_top.proofs.DescriptionHeading.{if_none}
 use Rattle.vpo_top.proofs.DescriptionTokens.{name_no_number, mark_no_number, nothing_no_number, number_is}

@@ -1,4 +1,4 @@
-use Rattle.std.proofs.Common.{◌≡◌, ◌<◌, ◌≤◌, ◌+◌, map, take, length, arith, rules, ◌∙◌, sym}
+use Rattle.std.proofs.Common.{map, take, arith, rules, ◌∙◌}
 use Rattle.std.proofs.lemmas.List.{length-set}
 use Rattle.vpo_top.proofs.DescriptionTenLines.{not_ten, taken_at, taken_count, lines_found, more_follows}
 use Rattle.vpo_top.proofs.description.lines.ten_lines.Goals as goal

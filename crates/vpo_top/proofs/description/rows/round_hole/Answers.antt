@@ -1,6 +1,6 @@
 use Rattle.std.proofs.Common.{codes, ◌++◌}
 use Rattle.vpo_top.proofs.DescriptionHeading.{split_once}
-use Rattle.vpo_top.proofs.DescriptionRows.{hole_split, hole_text}
+use Rattle.vpo_top.proofs.DescriptionRows.{hole_split}
 use Rattle.vpo_top.proofs.description.rows.round_hole.Goals as goal
 
 pub returns-in_err-back-clause-none : goal.returns-in_err-back-clause-none

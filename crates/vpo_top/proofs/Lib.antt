@@ -1,3 +1,6 @@
+mod Reports
+mod Lines
+pub mod SourceText
 mod DescriptionSplits
 mod DescriptionTenLines
 mod DescriptionTokens

@@ -1,5 +1,11 @@
 pub mod Request
 pub mod FirstDescription
+pub mod Assembly
+pub mod Messages
+pub mod Source
+pub mod SourceReading
+pub mod Spacing
+pub mod Compiled
 pub mod DescriptionLines
 pub mod DescriptionParts
 pub mod DescriptionLaw

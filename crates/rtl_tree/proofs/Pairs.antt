@@ -1,5 +1,5 @@
 -- A relation between each two elements, taken apart at the first one.
-use Rattle.std.proofs.Common.{◌≡◌, ◌≤◌, ◌-◌, List, [], ◌∷◌, ℕ, zero, suc, arith, length, take, drop, get_or, refl, sym, subst, Bool, true, false, IsTrue, ◌↔◌}
+use Rattle.std.proofs.Common.{◌≡◌, ◌≤◌, ◌-◌, List, [], ◌∷◌, zero, suc, arith, length, take, drop, get_or, sym, subst, Bool, true, false, IsTrue, ◌↔◌}
 use Rattle.std.specs.Prelude.{All, AllPairs}
 use Rattle.std.proofs.lemmas.Grind.{common_steps}
 use Rattle.std.proofs.lemmas.List.Kept.{AllPairs-cons}

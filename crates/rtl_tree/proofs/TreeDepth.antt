@@ -1,8 +1,8 @@
 -- How deep trees are.
-use Rattle.std.proofs.Common.{ℕ, ◌<◌, ◌≡◌, true, false, arith}
+use Rattle.std.proofs.Common.{ℕ, ◌<◌, ◌≡◌, false, arith}
 use Rattle.std.specs.Prelude.{nat_le}
 use Rattle.std.proofs.lemmas.Bool.Decides.{nat_tests}
-use Rattle.rtl_tree.specs.Trees.{Tree, Number, Symbol, CodeLabel, Read, Load, Unary, Binary, NoPair, AnyNumber, AnyName}
+use Rattle.rtl_tree.specs.Trees.{Tree, Load, Unary, Binary}
 use Rattle.rtl_tree.specs.WellFormed.{depth}
 
 pub depth-positive : (t : Tree) → 0 < depth t

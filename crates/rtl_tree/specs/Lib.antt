@@ -7,3 +7,4 @@ pub mod Substitution
 pub mod Likeness
 pub mod WellFormed
 pub mod Sets
+pub mod Sorts

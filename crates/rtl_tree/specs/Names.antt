@@ -1,21 +1,17 @@
 -- Names of C: letters, digits and underscores, no digit first (C11 6.4.2.1).
-use Rattle.std.specs.Prelude.{ℕ, ◌≤◌, ◌≡◌, ◌≢◌, ◌⊎◌, List, [], ◌∷◌, length, All, AllPairs}
+use Rattle.std.specs.Prelude.{ℕ, ◌<◌, ◌≤◌, ◌≡◌, ◌≢◌, ◌⊎◌, List, ◌∷◌, length, All, AllPairs}
+use Rattle.std.specs.Char.{IsAsciiDigit}
 
--- an underscore, or a letter of either case
-abbrev pub IsNondigit : ℕ → Type 0
-IsNondigit c = (c ≡ 95) ⊎ ((65 ≤ c) × (c ≤ 90)) ⊎ ((97 ≤ c) × (c ≤ 122))
-
-abbrev pub IsDigit : ℕ → Type 0
-IsDigit c = (48 ≤ c) × (c ≤ 57)
-
-abbrev pub IsSpelledAsName : List ℕ → Type 0
-IsSpelledAsName [] = ⊥
-IsSpelledAsName (c ∷ cs) = IsNondigit c × All (λ d. IsNondigit d ⊎ IsDigit d) cs
+-- an underscore, a digit, or a letter of either case
+abbrev pub IsNameByte : ℕ → Type 0
+IsNameByte c = (c ≡ 95) ⊎ IsAsciiDigit c ⊎ ((65 ≤ c) × (c ≤ 90)) ⊎ ((97 ≤ c) × (c ≤ 122))
 
 -- a C name of 1 to 63 bytes
 pub record IsName (n : List ℕ) : Type 0 where
-  pub spelled : IsSpelledAsName n
+  pub nonempty : 0 < length n
   pub long : length n ≤ 63
+  pub bytes : All IsNameByte n
+  pub first : (c : ℕ) (cs : List ℕ) → n ≡ c ∷ cs → ¬ IsAsciiDigit c
 
 -- at most 65,536 different names
 pub record AreNames (ns : List (List ℕ)) : Type 0 where

@@ -1,6 +1,5 @@
 -- Well-formed transfers.
-use Rattle.std.specs.Prelude.{ℕ, suc, ◌+◌, ◌<◌, ◌≤◌, ◌≡◌, max, nat_le, Bool, true, false, not, ◌&&◌, List, length, count_by, All, AllPairs}
-use Rattle.rtl_tree.specs.declared.cells.Cell.{Cell}
+use Rattle.std.specs.Prelude.{ℕ, suc, ◌<◌, ◌≤◌, ◌≡◌, max, nat_le, Bool, true, false, not, ◌&&◌, List, length, count_by, All, AllPairs}
 use Rattle.rtl_tree.specs.declared.cells.Cell.TheVariants.{Hard, Temp, Flag, Pc, Input, Output, Halt, Hole}
 use Rattle.rtl_tree.specs.declared.expressions.UnOp.TheVariants.{Test}
 use Rattle.rtl_tree.specs.declared.expressions.BinOp.TheVariants.{Pair, When}

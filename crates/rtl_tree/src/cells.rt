@@ -1,7 +1,7 @@
 //! Cells and labels.
 
 ghost use Rattle.std.specs.Prelude.{◌≡◌};
-ghost use Rattle.rtl_tree.specs.Same.{same_cell};
+ghost use Rattle.rtl_tree.specs.Same.{same_cell, same_label};
 
 /// What a tree reads and a transfer assigns, memory aside.
 #[derive(Clone, Copy, Debug, PartialEq, Eq)]
@@ -38,4 +38,11 @@ pub fn is_same(c: Cell, d: Cell) -> bool
     ensures { result ≡ same_cell c d }
 {
     c == d
+}
+
+/// Whether two labels are one.
+pub fn is_same_label(l: Lab, m: Lab) -> bool
+    ensures { result ≡ same_label l m }
+{
+    l == m
 }

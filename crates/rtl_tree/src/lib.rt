@@ -18,9 +18,9 @@ mod memory;
 mod substitution;
 mod transfers;
 
-pub use c_names::{Name, NameList, Names};
+pub use c_names::{Name, NameList, Names, is_name};
 pub use cell_sets::CellSet;
-pub use cells::{Cell, Lab, is_same};
+pub use cells::{Cell, Lab, is_same, is_same_label};
 pub use constructs::{Construct, are_flags_tested, is_free, is_free_below, is_root};
 pub use copies::{copy, same, take};
 pub use expressions::{BinOp, Expr, UnOp, Width};
@@ -29,3 +29,6 @@ pub use likeness::{alike, is_commutative};
 pub use memory::NoMemory;
 pub use substitution::substitute;
 pub use transfers::{Assign, Effects, Place};
+
+#[cfg(test)]
+mod tests;

@@ -32,11 +32,18 @@ impl Model for Assign {
     ghost view = { λ a. record { to = goal_of a.to; value = tree_of a.value } };
 }
 
-/// `HALT = 0`, which stands in the unused places of a short list.
+/// The number 0 to register 0, which fills the inline places of a list that are not in use.
 impl Default for Assign {
-    fn default() -> Assign {
+    ghost use Rattle.std.specs.Prelude.{◌≡◌};
+    ghost use Rattle.rtl_tree.specs.declared.cells.Cell.TheVariants.{Hard};
+    ghost use Rattle.rtl_tree.specs.Trees.{Number};
+    ghost use Rattle.rtl_tree.specs.Moves.{ToCell};
+
+    fn default() -> Assign
+        ensures { result ≡ record { to = ToCell (Hard 0); value = Number 0 } }
+    {
         Assign {
-            to: Place::Cell(Cell::Halt),
+            to: Place::Cell(Cell::Hard(0)),
             value: Expr::Num(0),
         }
     }

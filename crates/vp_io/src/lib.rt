@@ -7,11 +7,22 @@
 #![tactic(auto)]
 
 pub mod answers;
+mod failing;
 pub mod fetching;
+mod find;
+pub mod memory_files;
+pub mod memory_sink;
+pub mod memory_source;
+mod piece;
 pub mod reading;
+#[cfg(test)]
+mod tests;
 pub mod writing;
 
 pub use answers::{Failed, Outcome, Reason, Which};
 pub use fetching::{FetchFault, Files, fetch_whole};
+pub use memory_files::{MemFile, MemFiles, SafeFiles};
+pub use memory_sink::{MemSink, SafeSink};
+pub use memory_source::{MemSource, SafeSource};
 pub use reading::Source;
 pub use writing::{Sink, write_whole};

@@ -10,3 +10,14 @@ mod DescriptionPieces
 mod DescriptionWhole
 mod DescriptionNames
 mod DescriptionFound
+pub mod SourceRunLaws
+mod Outcomes
+pub mod HoleNumbers
+pub mod RowTokens
+pub mod NoLineFeed
+pub mod TextLines
+pub mod InstructionLines
+pub mod Turns
+pub mod MachinePrints
+pub mod MachineEnds
+pub mod CompiledTo

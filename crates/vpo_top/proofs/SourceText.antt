@@ -1,6 +1,6 @@
 -- What a text of the first source form determines.
-use Rattle.std.proofs.Common.{◌≡◌, ◌≢◌, ℕ, zero, suc, ◌+◌, ◌^◌, ◌<◌, ◌≤◌, ◌⊎◌, inl, inr, Bool, true, false, cond, List, [], ◌∷◌, ◌++◌, length, take, drop, get_or, refl, ap, sym, ◌∙◌, subst, arith, append_assoc, one-add, lit≤, lit<, ◌&&◌}
-use Rattle.std.specs.Prelude.{codes, Option, Some, None, Result, Ok, Err, MatchOption, IfOk}
+use Rattle.std.proofs.Common.{◌≡◌, ◌≢◌, ℕ, zero, suc, ◌+◌, ◌^◌, ◌<◌, ◌≤◌, inl, inr, Bool, true, false, cond, List, [], ◌∷◌, ◌++◌, length, take, drop, get_or, refl, ap, sym, ◌∙◌, subst, arith, append_assoc, one-add, lit≤, lit<, ◌&&◌}
+use Rattle.std.specs.Prelude.{codes, Option, Some, None, Result, Ok, Err, MatchOption, IfOk, All}
 use Rattle.std.specs.Borrow.{Bor}
 use Rattle.std.specs.Char.{is_ascii_digit}
 use Rattle.std.specs.Fmt.{decimal}
@@ -8,12 +8,12 @@ use Rattle.std.specs.List.{prefix_len}
 use Rattle.std.specs.Str.{all_ascii_digits, IsUtf8}
 use Rattle.std.specs.Str.Parse.{digits_value, ParsesUnsigned}
 use Rattle.std.proofs.lemmas.Fmt.{digits_decimal, decimal_injective, decimal_digit, first_decimal, IsAscii-from_digits, parse-decimal, decimal-digits_value}
-use Rattle.std.proofs.lemmas.Grind.{common_steps}
 use Rattle.std.proofs.lemmas.List.{append_cancel_left, take-append-drop}
+use Rattle.std.proofs.lemmas.List.Elements.{All-cons, All-nil}
 use Rattle.std.proofs.lemmas.Str.Parse.{IsNumeralModel, numerals_by_value, tells_all_ascii_digits, parse_digits}
 use Rattle.std.proofs.lemmas.Str.{IsUtf8-from_ascii}
 use Rattle.vpo_top.specs.declared.source.SourceProgram.{SourceProgram}
-use Rattle.vpo_top.specs.Source.{IsBreak, IsClosing, BeginsWord, BeginsStatement, BeginsCalls, SpellsMain, SpellsSource, with_include, without_include}
+use Rattle.vpo_top.specs.Source.{IsClosing, BeginsWord, BeginsStatement, BeginsCalls, SpellsMain, SpellsSource, with_include, without_include, IsWithinLimits}
 use Rattle.vpo_top.specs.SourceReading.{IsWord, IsMark, begins_with_digit, BeginsNumber, BeginsNoCall, HasReadCalls, ReadsCalls, EndsMain}
 
 pub own : IsNumeralModel (λ ds. all_ascii_digits ds ≡ true) (digits_value 10)
@@ -78,25 +78,31 @@ pub word_heads : (c d : ℕ) (cs ds text rest behind : List ℕ) → c ≢ 10 �
     → BeginsWord (c ∷ cs) text rest → BeginsWord (d ∷ ds) text behind → c ≡ d
 word_heads c d cs ds text rest behind cn dn h k =
     elim h.line_feed [
-      inl e ↦ elim k.line_feed [
-        inl f ↦ let x = rw e at h.is in let y = rw f at k.is in cc
-      | inr f ↦ let x = rw e at h.is in let y = rw f at k.is in absurd (cn (cc)) ]
-    | inr e ↦ elim k.line_feed [
-        inl f ↦ let x = rw e at h.is in let y = rw f at k.is in absurd (dn (cc))
-      | inr f ↦ let x = rw e at h.is in let y = rw f at k.is in cc ] ]
+      | inl e ↦ elim k.line_feed [
+        | inl f ↦ let x = rw e at h.is in let y = rw f at k.is in cc
+        | inr f ↦ let x = rw e at h.is in let y = rw f at k.is in absurd (cn (cc))
+      ]
+      | inr e ↦ elim k.line_feed [
+        | inl f ↦ let x = rw e at h.is in let y = rw f at k.is in absurd (dn (cc))
+        | inr f ↦ let x = rw e at h.is in let y = rw f at k.is in cc
+      ]
+    ]
 
 pub word_unique : (word text rest behind : List ℕ) → IsWord word → BeginsWord word text rest → BeginsWord word text behind → rest ≡ behind
 word_unique [] text rest behind w h k = absurd w
 word_unique (c ∷ cs) text rest behind w h k =
     elim h.line_feed [
-      inl e ↦ elim k.line_feed [
-        inl f ↦ let x = rw e at h.is in let y = rw f at k.is in
-          append_cancel_left cs rest behind (cc)
-      | inr f ↦ let x = rw e at h.is in let y = rw f at k.is in absurd (w (cc)) ]
-    | inr e ↦ elim k.line_feed [
-        inl f ↦ let x = rw e at h.is in let y = rw f at k.is in absurd (w (cc))
-      | inr f ↦ let x = rw e at h.is in let y = rw f at k.is in
-          append_cancel_left cs rest behind (cc) ] ]
+      | inl e ↦ elim k.line_feed [
+        | inl f ↦ let x = rw e at h.is in let y = rw f at k.is in
+            append_cancel_left cs rest behind (cc)
+        | inr f ↦ let x = rw e at h.is in let y = rw f at k.is in absurd (w (cc))
+      ]
+      | inr e ↦ elim k.line_feed [
+        | inl f ↦ let x = rw e at h.is in let y = rw f at k.is in absurd (w (cc))
+        | inr f ↦ let x = rw e at h.is in let y = rw f at k.is in
+            append_cancel_left cs rest behind (cc)
+      ]
+    ]
 
 number_behind : (mark : List ℕ) (n : ℕ) (rest : List ℕ) → IsMark mark → n ≤ 32767 → BeginsNumber n (decimal n ++ (mark ++ rest)) (mark ++ rest)
 number_behind [] n rest m small = absurd m
@@ -158,7 +164,7 @@ main_reads arguments text body rest most p opens calls last s =
     record {
       calls = found.0;
       ending = subst Q (sym found.1) (record { closing = s.closing; returns = s.returns; closes = s.closes });
-      few = subst L (sym found.0) s.few
+      few = subst L (sym found.0) s.few;
     }
 
 pub status_unique : (n m : ℕ) (text : List ℕ) → EndsMain n text → EndsMain m text → n ≡ m
@@ -196,8 +202,9 @@ behind_line_feed word text next (Some rest) w is h = record { gap = 10 ∷ []; l
 behind_line_feed [] text next None w is h = absurd w
 behind_line_feed (c ∷ cs) text next None w is h = λ rest begins.
     elim begins.line_feed [
-      inl e ↦ let x = rw e at begins.is in absurd (w (cc))
-    | inr e ↦ let x = rw e at begins.is in h rest (cc) ]
+      | inl e ↦ let x = rw e at begins.is in absurd (w (cc))
+      | inr e ↦ let x = rw e at begins.is in h rest (cc)
+    ]
 
 pub number_found : (n k : ℕ) (text digits rest : List ℕ) → k ≡ prefix_len is_ascii_digit text → digits ≡ take k text → rest ≡ drop k text
     → n ≤ 32767 → digits ≡ decimal n → BeginsNumber n text rest
@@ -206,7 +213,7 @@ number_found n k text digits rest count front back small is =
     record {
       in_range = small;
       is = sym (take-append-drop k text) ∙ (cc);
-      whole = subst P (ap (λ j. drop j text) (sym count) ∙ sym back) (no_digit_behind text)
+      whole = subst P (ap (λ j. drop j text) (sym count) ∙ sym back) (no_digit_behind text);
     }
 
 pub number_missing : (k : ℕ) (text digits : List ℕ) → k ≡ prefix_len is_ascii_digit text → digits ≡ take k text
@@ -262,10 +269,10 @@ snoc_calls (m ∷ ms) n text rest behind calls s = (calls.0, calls.1, snoc_calls
 pub one_more_call : (old now next text rest behind : List ℕ) (n : ℕ) → HasReadCalls old now text rest
     → BeginsStatement (codes "putchar(") (codes ");") n rest behind → next ≡ now ++ n ∷ [] → HasReadCalls old next text behind
 one_more_call old now next text rest behind n h s is = record {
-    arguments = h.arguments ++ n ∷ [];
-    appended = is ∙ ap (λ ns. ns ++ n ∷ []) h.appended ∙ append_assoc old h.arguments (n ∷ []);
-    calls = snoc_calls h.arguments n text rest behind h.calls s;
-  }
+  arguments = h.arguments ++ n ∷ [];
+  appended = is ∙ ap (λ ns. ns ++ n ∷ []) h.appended ∙ append_assoc old h.arguments (n ∷ []);
+  calls = snoc_calls h.arguments n text rest behind h.calls s;
+}
 
 pub digits_are_text : (digits : List ℕ) → all_ascii_digits digits ≡ true → IsUtf8 digits
 digits_are_text digits all = IsUtf8-from_ascii digits (IsAscii-from_digits digits (own.to digits all))
@@ -325,3 +332,19 @@ pub too_many : (arguments text body rest : List ℕ) (most : ℕ) (p : SourcePro
 too_many arguments text body rest most p opens calls many s =
     let r = found_reads arguments text body rest most p opens calls s in
     omega (arith, r.few)
+
+arguments_in_range : (ns : List ℕ) (text rest : List ℕ) → BeginsCalls ns text rest → All (λ n. n ≤ 32767) ns
+arguments_in_range [] text rest calls = All-nil (λ n. n ≤ 32767)
+arguments_in_range (n ∷ ns) text rest calls =
+    All-cons (λ m. m ≤ 32767) n ns calls.1.in_range (arguments_in_range ns calls.0 rest calls.2)
+
+main_within : (most : ℕ) (text : List ℕ) (p : SourceProgram) → most ≤ 1000 → SpellsMain most text p → IsWithinLimits p
+main_within most text p limit s = record {
+  few = omega (arith, s.few);
+  arguments = arguments_in_range p.calls s.body s.ending s.calls;
+  status = s.returns.in_range;
+}
+
+pub source_within : (text : List ℕ) (p : SourceProgram) → SpellsSource text p → IsWithinLimits p
+source_within text p (with_include rest is s) = main_within 1000 rest p (lit≤ tt) s
+source_within text p (without_include s) = main_within 0 text p (lit≤ tt) s

@@ -1,7 +1,7 @@
 -- The words of the command line that ask for something.
 use Rattle.vpo_top.specs.declared.request.Request.{Request}
 use Rattle.vpo_top.specs.declared.request.Request.TheVariants.{Compile}
-use Rattle.std.specs.Prelude.{◌≡◌, ℕ, Bool, true, false, not, cond, ◌&&◌, ◌==◌, List, [], ◌∷◌, map, Option, Some, None, bytes_eq, codes, string_bytes, String}
+use Rattle.std.specs.Prelude.{◌≡◌, ℕ, Bool, true, false, not, cond, ◌&&◌, ◌==◌, List, [], ◌∷◌, map, Option, Some, None, bytes_eq, codes, string_bytes, String, ⊤}
 use Rattle.std.specs.declared.alloc.Global.{Global}
 
 -- the bytes of each word
@@ -25,3 +25,8 @@ abbrev pub request_of : List (List ℕ) → Option Asked
 request_of (command ∷ description ∷ source ∷ []) =
     cond (bytes_eq command (codes "cc") && (is_file_word description && is_file_word source)) (Some (Compilation description source)) None
 request_of _ = None
+
+-- where a compilation is asked for, P holds of the two words
+abbrev pub ForCompilation : Option Asked → (List ℕ → List ℕ → Type 0) → Type 0
+ForCompilation None P = ⊤
+ForCompilation (Some (Compilation description source)) P = P description source

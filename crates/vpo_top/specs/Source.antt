@@ -1,5 +1,7 @@
 -- The first C sources: calls of `putchar` with numbers, and a return of a number.
-use Rattle.std.specs.Prelude.{◌≡◌, ℕ, ◌≤◌, ◌⊎◌, List, [], ◌∷◌, ◌++◌, length, codes}
+-- A line feed may follow the `{` of `main`, each `;` and the last `}`, and ends the include line:
+-- here it stands before each call, before the return, before the closing brace, and at the end.
+use Rattle.std.specs.Prelude.{◌≡◌, ℕ, ◌≤◌, ◌⊎◌, List, [], ◌∷◌, ◌++◌, length, codes, All}
 use Rattle.std.specs.Fmt.{decimal}
 use Rattle.vpo_top.specs.declared.source.SourceProgram.{SourceProgram}
 
@@ -24,13 +26,13 @@ BeginsCalls [] text rest = text ≡ rest
 BeginsCalls (n ∷ ns) text rest =
     (behind : List ℕ) × BeginsStatement (codes "putchar(") (codes ");") n text behind × BeginsCalls ns behind rest
 
--- the text is the closing brace of `main`, perhaps between line feeds
+-- the text is the closing brace of `main`, before and behind which a line feed may stand
 pub record IsClosing (text : List ℕ) : Type 0 where
   pub rest : List ℕ
   pub brace : BeginsWord (codes "}") text rest
   pub line_feed : IsBreak rest
 
--- the text is `main` with these calls, of which there are at most so many, and this status
+-- the text is `main` with the calls and the status of the program, and has at most so many calls
 pub record SpellsMain (most : ℕ) (text : List ℕ) (program : SourceProgram) : Type 0 where
   pub body : List ℕ
   pub ending : List ℕ
@@ -49,3 +51,12 @@ pub data SpellsSource (text : List ℕ) (program : SourceProgram) : Type 0 where
 -- at most one program spells a text
 abbrev pub AtMostOneProgram : Type 0
 AtMostOneProgram = (text : List ℕ) (p q : SourceProgram) → SpellsSource text p → SpellsSource text q → p ≡ q
+
+-- at most 1,000 calls, and no number above 32767
+pub record IsWithinLimits (program : SourceProgram) : Type 0 where
+  pub few : length program.calls ≤ 1000
+  pub arguments : All (λ n. n ≤ 32767) program.calls
+  pub status : program.status ≤ 32767
+
+abbrev pub SpelledAreWithinLimits : Type 0
+SpelledAreWithinLimits = (text : List ℕ) (p : SourceProgram) → SpellsSource text p → IsWithinLimits p

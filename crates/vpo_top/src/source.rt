@@ -1,11 +1,11 @@
 //! The reading of the first C sources: an include line, calls of `putchar` with numbers, a return.
 
-ghost use Rattle.std.specs.Prelude.{◌≡◌, ◌≢◌, ℕ, ◌≤◌, List, [], ◌∷◌, ◌++◌, IfOk, IsErrOf, MatchOption, OnErr, IsTrue, ◌↔◌};
+ghost use Rattle.std.specs.Prelude.{◌≡◌, ◌≢◌, ℕ, ◌≤◌, List, ◌++◌, IfOk, IsErrOf, MatchOption, IsTrue, ◌↔◌, ◌<◌, length, slice_index};
 ghost use Rattle.std.specs.Char.{is_ascii_digit};
 ghost use Rattle.std.specs.List.{prefix_len};
 ghost use Rattle.std.specs.Fmt.{decimal};
 ghost use Rattle.std.specs.Str.{all_ascii_digits};
-ghost use Rattle.vpo_top.specs.Source.{IsBreak, IsClosing, BeginsWord, BeginsStatement, BeginsCalls, SpellsMain, SpellsSource, AtMostOneProgram};
+ghost use Rattle.vpo_top.specs.Source.{IsClosing, BeginsWord, BeginsStatement, SpellsMain, SpellsSource, AtMostOneProgram, SpelledAreWithinLimits};
 ghost use Rattle.vpo_top.specs.SourceReading.{IsWord, IsMark, BeginsNumber, ReadsCalls, EndsMain};
 
 use sqlite_items::Items;
@@ -59,6 +59,11 @@ pub fn read_source(alloc: Global, text: &[u8]) -> Result<SourceProgram, SourceFa
 /// A text spells one program at most.
 pub fn at_most_one_program()
     ensures { AtMostOneProgram }
+{}
+
+/// No text spells a number or a count of calls past its limit.
+pub fn spelled_are_within_limits()
+    ensures { SpelledAreWithinLimits }
 {}
 
 /// The definition of `main`, with at most so many calls.
@@ -164,7 +169,7 @@ fn number_of(digits: &[u8]) -> Option<u16>
     ensures { MatchOption result ((n : ℕ) → n ≤ 32767 → digits.now ≢ decimal n)
         (λ n. (n ≤ 32767) × (digits.now ≡ decimal n)) }
 {
-    if digits.len() > 1 && digits[0] == b'0' {
+    if has_leading_zero(digits) {
         return None;
     }
     let Ok(text) = str::from_utf8(digits) else {
@@ -173,7 +178,17 @@ fn number_of(digits: &[u8]) -> Option<u16>
     let Ok(number) = text.parse::<u16>() else {
         return None;
     };
-    if number <= MAX_NUMBER { Some(number) } else { None }
+    if number <= MAX_NUMBER {
+        Some(number)
+    } else {
+        None
+    }
+}
+
+fn has_leading_zero(digits: &[u8]) -> bool
+    ensures { IsTrue result ↔ ((1 < length digits.now) × (slice_index digits.now 0 ≡ 48)) }
+{
+    matches!(digits, [b'0', _, ..])
 }
 
 #[cfg(test)]
@@ -207,9 +222,21 @@ mod tests {
             (b"int main(void){return 7;}", &[], 7),
             (b"int main(void){\nreturn 32767;\n}\n", &[], 32767),
             (b"#include <stdio.h>\nint main(void){return 0;}", &[], 0),
-            (b"#include <stdio.h>\nint main(void){putchar(72);putchar(321);return 7;}", &[72, 321], 7),
-            (b"#include <stdio.h>\nint main(void){\nputchar(0);\nputchar(10);\nreturn 1;\n}\n", &[0, 10], 1),
-            (b"#include <stdio.h>\nint main(void){putchar(32767);\nreturn 100;}\n", &[32767], 100),
+            (
+                b"#include <stdio.h>\nint main(void){putchar(72);putchar(321);return 7;}",
+                &[72, 321],
+                7,
+            ),
+            (
+                b"#include <stdio.h>\nint main(void){\nputchar(0);\nputchar(10);\nreturn 1;\n}\n",
+                &[0, 10],
+                1,
+            ),
+            (
+                b"#include <stdio.h>\nint main(void){putchar(32767);\nreturn 100;}\n",
+                &[32767],
+                100,
+            ),
         ];
         for (text, calls, status) in cases {
             assert!(rt; reads(rt.alloc(), text, calls, status), "status {status}");

@@ -21,4 +21,4 @@ returns-in_err-number_of c =
 pub returns : goal.returns
 returns c =
     number_found c.in_ok-number_of.field-0 c.digit_count.result c.args.text.now c.split_at.result.0.now c.split_at.result.1.now
-      c.digit_count.ensures c.split_at.ensures.front c.split_at.ensures.back c.in_ok-number_of.ensures.0 c.in_ok-number_of.ensures.1
+    c.digit_count.ensures c.split_at.ensures.front c.split_at.ensures.back c.in_ok-number_of.ensures.0 c.in_ok-number_of.ensures.1

@@ -8,11 +8,11 @@ pub returns-in_err-number : goal.returns-in_err-number
 returns-in_err-number c =
     rw c.from_residual-in_err-number.ensures
     (λ n rest s. c.in_err-number.ensures n _
-      (number_after_word c.args.word.now c.args.mark.now n c.args.text.now _ rest c.requires.word c.requires.mark c.in_ok-behind_word.ensures s))
+    (number_after_word c.args.word.now c.args.mark.now n c.args.text.now _ rest c.requires.word c.requires.mark c.in_ok-behind_word.ensures s))
 
 pub returns-in_err-rest : goal.returns-in_err-rest
 returns-in_err-rest c =
     rw c.from_residual-in_err-rest.ensures
     (λ n rest s. c.in_err-rest.ensures rest
-      (number_unique _ _ _ _ _ c.in_ok-number.ensures
-        (number_after_word c.args.word.now c.args.mark.now n c.args.text.now _ rest c.requires.word c.requires.mark c.in_ok-behind_word.ensures s)).1)
+    (number_unique _ _ _ _ _ c.in_ok-number.ensures
+    (number_after_word c.args.word.now c.args.mark.now n c.args.text.now _ rest c.requires.word c.requires.mark c.in_ok-behind_word.ensures s)).1)

@@ -1,0 +1,17 @@
+pub use Rattle.rtl_word.specs.Words
+pub use Rattle.rtl_tree.specs.Trees
+pub use Rattle.rtl_tree.specs.Moves
+pub use Rattle.rtl_tree.specs.Codes
+pub use Rattle.rtl_tree.specs.Names
+pub use Rattle.rtl_tree.specs.Same
+pub use Rattle.rtl_tree.specs.Sorts
+pub use Rattle.rtl_tree.specs.Substitution
+pub use Rattle.rtl_tree.specs.Likeness
+pub use Rattle.rtl_tree.specs.WellFormed
+pub use Rattle.rtl_tree.specs.Sets
+pub use Rattle.rtl_value.specs.Values
+pub use Rattle.rtl_value.specs.SubstitutionLaws
+pub use Rattle.rtl_effect.specs.Views
+pub use Rattle.rtl_effect.specs.Effects
+pub use Rattle.rtl_effect.specs.Agree
+pub use Rattle.rtl_effect.specs.EffectLaws

@@ -1,0 +1,116 @@
+-- What each outcome of a compilation says of the two files, and of the objects outside.
+use Rattle.std.specs.Prelude.{◌≡◌, ◌≢◌, ◌⊎◌, ℕ, ◌<◌, ◌≤◌, List, length, Option, Some, None, ⊤}
+use Rattle.vp_io.specs.Counts.{Rose}
+use Rattle.vp_io.specs.Files.{Told, OfFile, FaultCounts, RoseBy}
+use Rattle.vp_io.specs.declared.answers.Reason.{Reason}
+use Rattle.vp_io.specs.declared.answers.Which.{Which}
+use Rattle.vp_io.specs.declared.answers.Which.TheVariants.{Description, Text, Assembly, Input}
+use Rattle.vp_io.specs.declared.answers.Outcome.{Outcome}
+use Rattle.vp_io.specs.declared.answers.Outcome.TheVariants.{Done, NoMemory, BadWords, FileTooLong, BadDescription, BadSource, BadAssembly, ReadFault, WriteFault, Trapped, Spent}
+use Rattle.md_rows.specs.declared.description.RawDescription.{RawDescription}
+use Rattle.vpo_top.specs.declared.source.SourceProgram.{SourceProgram}
+use Rattle.vpo_top.specs.FirstDescription.{IsDescription}
+use Rattle.vpo_top.specs.Source.{SpellsSource}
+
+-- the most bytes of a description, and of a source
+abbrev pub byte_limit : ℕ
+byte_limit = 1048576
+
+-- a form that isn't built yet
+abbrev pub not_built : Reason
+not_built = record { line = 1; column = 1; rule = 50; detail = 0 }
+
+-- the bytes are short enough, and a description that says this
+pub record IsDescribedBy (description : List ℕ) (d : RawDescription) : Type 0 where
+  pub short : length description ≤ byte_limit
+  pub is : IsDescription description d
+
+-- the bytes are short enough, and a source that spells this
+pub record IsSpelledBy (source : List ℕ) (p : SourceProgram) : Type 0 where
+  pub short : length source ≤ byte_limit
+  pub spells : SpellsSource source p
+
+-- a file is not fetched for want of memory, by a fault, or as too long
+abbrev pub IsFetchRefusal : Which → Outcome → Type 0
+IsFetchRefusal which outcome = (outcome ≡ NoMemory) ⊎ (outcome ≡ ReadFault which) ⊎ (outcome ≡ FileTooLong which)
+
+-- the bytes are a description that is accepted
+abbrev pub IsAccepted : List ℕ → Type 0
+IsAccepted description = (d : RawDescription) × IsDescribedBy description d
+
+-- the bytes are a source that is accepted
+abbrev pub IsCompiled : List ℕ → Type 0
+IsCompiled source = (p : SourceProgram) × IsSpelledBy source p
+
+-- the refusals of a description, and where each comes
+abbrev pub IsRefusalOfDescription : Outcome → Type 0
+IsRefusalOfDescription NoMemory = ⊤
+IsRefusalOfDescription (ReadFault Description) = ⊤
+IsRefusalOfDescription (FileTooLong Description) = ⊤
+IsRefusalOfDescription (BadDescription reason) = reason ≡ not_built
+IsRefusalOfDescription _ = ⊥
+
+abbrev pub JudgesDescription : List ℕ → Outcome → Type 0
+JudgesDescription description NoMemory = ⊤
+JudgesDescription description (ReadFault Description) = ⊤
+JudgesDescription description (FileTooLong Description) = byte_limit < length description
+JudgesDescription description (BadDescription reason) =
+    (reason ≡ not_built) × (length description ≤ byte_limit) × ((d : RawDescription) → ¬ IsDescription description d)
+JudgesDescription description _ = ⊥
+
+-- the refusals of a source, and where each comes
+abbrev pub IsRefusalOfSource : Outcome → Type 0
+IsRefusalOfSource NoMemory = ⊤
+IsRefusalOfSource (ReadFault Text) = ⊤
+IsRefusalOfSource (FileTooLong Text) = ⊤
+IsRefusalOfSource (BadSource reason) = reason ≡ not_built
+IsRefusalOfSource _ = ⊥
+
+abbrev pub JudgesSource : List ℕ → Outcome → Type 0
+JudgesSource source NoMemory = ⊤
+JudgesSource source (ReadFault Text) = ⊤
+JudgesSource source (FileTooLong Text) = byte_limit < length source
+JudgesSource source (BadSource reason) =
+    (reason ≡ not_built) × (length source ≤ byte_limit) × ((p : SourceProgram) → ¬ SpellsSource source p)
+JudgesSource source _ = ⊥
+
+-- where each outcome comes, for what the two files hold: a description is judged before a source, and but for want of memory and
+-- faults of the outside, just one outcome fits
+abbrev pub Judges : List ℕ → List ℕ → Outcome → Type 0
+Judges description source (Done status) = (status ≡ 0) × IsAccepted description × IsCompiled source
+Judges description source WriteFault = IsAccepted description × IsCompiled source
+Judges description source outcome = JudgesDescription description outcome ⊎ (IsAccepted description × JudgesSource source outcome)
+
+-- a file's fault comes only where the count of the fetches of its name rose
+abbrev pub HasFetchCause : Told → List ℕ → List ℕ → FaultCounts → FaultCounts → Outcome → Type 0
+HasFetchCause told description source before now (ReadFault Description) = RoseBy told description before now
+HasFetchCause told description source before now (ReadFault Text) = RoseBy told source before now
+HasFetchCause told description source before now _ = ⊤
+
+-- a fault comes only where a count rose: that of the fetches of the file's name, or that of the output
+abbrev pub HasOutsideCause : Told → List ℕ → List ℕ → FaultCounts → FaultCounts → ℕ → ℕ → Outcome → Type 0
+HasOutsideCause told description source before now output_before output_now WriteFault = Rose output_before output_now
+HasOutsideCause told description source before now output_before output_now outcome = HasFetchCause told description source before now outcome
+
+-- nothing is written where this is the outcome
+abbrev pub IsRefusal : Outcome → Type 0
+IsRefusal (Done status) = ⊥
+IsRefusal WriteFault = ⊥
+IsRefusal _ = ⊤
+
+-- the outcomes that a compilation has, whatever is outside
+abbrev pub IsOfCompilation : Outcome → Type 0
+IsOfCompilation (Done status) = status ≡ 0
+IsOfCompilation WriteFault = ⊤
+IsOfCompilation outcome = IsRefusalOfDescription outcome ⊎ IsRefusalOfSource outcome
+
+-- where files are told, those under these two names have P
+abbrev pub OfFiles : Told → List ℕ → List ℕ → (List ℕ → List ℕ → Type 0) → Type 0
+OfFiles None description source P = ⊤
+OfFiles (Some files) description source P = P (files description) (files source)
+
+-- no file but these two was fetched: no count has fallen, and those of other names stand still
+pub record CountsOnlyOf (description source : List ℕ) (before now : FaultCounts) : Type 0 where
+  pub total : before.total ≤ now.total
+  pub of_name : (name : List ℕ) → before.of name ≤ now.of name
+  pub others : (other : List ℕ) → other ≢ description → other ≢ source → now.of other ≡ before.of other

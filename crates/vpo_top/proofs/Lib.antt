@@ -1,6 +1,15 @@
 mod Reports
 mod Lines
 pub mod SourceText
+mod DescriptionSplits
+mod DescriptionTenLines
+mod DescriptionTokens
+mod DescriptionHeading
+mod DescriptionRows
+mod DescriptionPieces
+mod DescriptionWhole
+mod DescriptionNames
+mod DescriptionFound
 pub mod SourceRunLaws
 mod Outcomes
 pub mod HoleNumbers

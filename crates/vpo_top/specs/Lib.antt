@@ -5,6 +5,9 @@ pub mod MachineRun
 pub mod Messages
 pub mod Spacing
 pub mod Compiled
+pub mod DescriptionLines
+pub mod DescriptionParts
+pub mod DescriptionLaw
 pub mod Headline
 pub mod Judgement
 pub mod Source

@@ -6,7 +6,7 @@
 #![tactic(auto)]
 
 mod assembly;
-mod description;
+pub mod description;
 pub mod report;
 mod request;
 pub mod source;

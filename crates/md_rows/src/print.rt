@@ -17,7 +17,11 @@ pub fn number_of_word(bits: u32, low: i64, high: i64, inverted: bool, word: u32)
         return Some(unsigned);
     }
     let negative = less_one_turn(bits, turned);
-    if lies_within(low, high, negative) { Some(negative) } else { None }
+    if lies_within(low, high, negative) {
+        Some(negative)
+    } else {
+        None
+    }
 }
 
 fn lies_within(low: i64, high: i64, number: i64) -> bool

@@ -3,7 +3,8 @@
 use super::{DescriptionFault, read_description};
 use std::test::Fail;
 
-const TINY: &str = "vpo 1\nname tiny\nword 16\nmemory 4096\ndata 64\nstack 1024\nreg 0 a result\nrow set <n:word>,a | r[0] = <n>\nrow put | OUT = r[0]\nrow end | HALT = r[0]\n";
+const TINY: &str =
+    "vpo 1\nname tiny\nword 16\nmemory 4096\ndata 64\nstack 1024\nreg 0 a result\nrow set <n:word>,a | r[0] = <n>\nrow put | OUT = r[0]\nrow end | HALT = r[0]\n";
 
 #[test]
 fn tiny_is_read(rt: HostRuntime) -> Result<(), Fail> {
@@ -57,7 +58,13 @@ const REFUSED: [(&str, &str); 30] = [
 fn variants_are_refused(rt: HostRuntime) -> Result<(), Fail> {
     for (part, other) in REFUSED {
         let text = TINY.replacen(rt.alloc(), part, other, 1)?;
-        assert!(rt; matches!(read_description(rt.alloc(), text.as_bytes()), Err(DescriptionFault::Refused)), "{other}");
+        assert!(rt;
+            matches!(
+                read_description(rt.alloc(), text.as_bytes()),
+                Err(DescriptionFault::Refused)
+            ),
+            "{other}"
+        );
     }
     Ok(())
 }

@@ -8,6 +8,9 @@ use crate::output::OutputStream;
 
 const PATH: &str = "vpo-fetched.tmp";
 
+/// The length of the numbers below 2,000, each with a line feed.
+const LENGTH: u64 = 8890;
+
 #[test]
 fn fetches_a_written_file(rt: HostRuntime) -> Result<(), Fail> {
     let mut text = Vec::new(rt.alloc());
@@ -16,11 +19,10 @@ fn fetches_a_written_file(rt: HostRuntime) -> Result<(), Fail> {
     }
     fs::write(&rt, PATH, text.as_slice())?;
     let mut files = FileSystem::new(rt);
-    let fetched = fetch_whole(rt.alloc(), &mut files, PATH, text.len() as u64);
-    let cut = fetch_whole(rt.alloc(), &mut files, PATH, text.len() as u64 - 1);
+    let fetched = fetch_whole(rt.alloc(), &mut files, PATH, LENGTH);
+    let cut = fetch_whole(rt.alloc(), &mut files, PATH, LENGTH - 1);
     fs::remove_file(&rt, PATH)?;
-    let missing = fetch_whole(rt.alloc(), &mut files, PATH, 8890);
-    assert_eq!(rt; text.len(), 8890);
+    let missing = fetch_whole(rt.alloc(), &mut files, PATH, LENGTH);
     assert!(rt; fetched.is_ok_and(|fetched| fetched == text));
     assert!(rt; matches!(cut, Err(FetchFault::TooLong)));
     assert!(rt; matches!(missing, Err(FetchFault::Failed)));

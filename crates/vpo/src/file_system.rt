@@ -56,12 +56,7 @@ impl<R: fs::Files> Files for FileSystem<R> {
 }
 
 /// Reads bytes of a file from the place `at` on.
-fn read_at<R: fs::Files>(
-    runtime: &R,
-    name: &str,
-    at: u64,
-    into: &mut [u8],
-) -> io::Result<usize>
+fn read_at<R: fs::Files>(runtime: &R, name: &str, at: u64, into: &mut [u8]) -> io::Result<usize>
     ensures { ReadsAtMost result into.new }
 {
     let mut file = File::open(runtime, name)?;

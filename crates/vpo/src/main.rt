@@ -13,20 +13,18 @@ ghost use Rattle.vp_io.specs.Codes.{exit_code};
 mod file_system;
 mod input;
 mod output;
-
 #[cfg(test)]
 mod tests;
 
+use crate::file_system::FileSystem;
+use crate::input::InputStream;
+use crate::output::OutputStream;
 use std::env;
 use std::io::{self, ErrorKind};
 use std::process::ExitCode;
 use vp_io::Outcome;
 use vpo_top::report::report;
 use vpo_top::vpo;
-
-use crate::file_system::FileSystem;
-use crate::input::InputStream;
-use crate::output::OutputStream;
 
 fn main(rt: HostRuntime) -> ExitCode {
     status_of(&run(rt))
@@ -45,7 +43,14 @@ fn run(rt: HostRuntime) -> Outcome {
     let mut output = OutputStream::new(rt.stdout());
     let mut errors = OutputStream::new(rt.stderr());
     match words(&rt) {
-        Ok(words) => vpo(rt.alloc(), &words, &mut files, &mut input, &mut output, &mut errors),
+        Ok(words) => vpo(
+            rt.alloc(),
+            &words,
+            &mut files,
+            &mut input,
+            &mut output,
+            &mut errors,
+        ),
         Err(error) => {
             let outcome = without_words(&error);
             report(&outcome, &mut errors);

@@ -1,10 +1,9 @@
-use std::fs;
-use std::test::Fail;
-use vp_io::{Failed, FetchFault, Source, fetch_whole, write_whole};
-
 use crate::file_system::FileSystem;
 use crate::input::InputStream;
 use crate::output::OutputStream;
+use std::fs;
+use std::test::Fail;
+use vp_io::{Failed, FetchFault, Source, fetch_whole, write_whole};
 
 const PATH: &str = "vpo-fetched.tmp";
 

@@ -5,7 +5,7 @@ use Rattle.vp_io.specs.declared.answers.Outcome.TheVariants.{Done, NoMemory, Bad
 use Rattle.vpo_top.specs.Messages.{message, IsWritten, IsReported}
 
 pub reported : (outcome : Outcome) (old new : Option (List ℕ)) (before now : ℕ)
-  → ((status : ℕ) → outcome ≡ Done status → ⊥) → IsWritten (message outcome) old new before now → IsReported outcome old new before now
+    → ((status : ℕ) → outcome ≡ Done status → ⊥) → IsWritten (message outcome) old new before now → IsReported outcome old new before now
 reported (Done status) old new before now other is = absurd (other status refl)
 reported NoMemory old new before now other is = is
 reported BadWords old new before now other is = is

@@ -34,13 +34,13 @@ pub data AreLinesOf (d : RawDescription) : List (List ℕ) → List Instance →
   no_line : AreLinesOf d [] []
   skipped : (line : List ℕ) (lines : List (List ℕ)) (is : List Instance) → IsSkipped line → AreLinesOf d lines is → AreLinesOf d (line ∷ lines) is
   one_line : (line : List ℕ) (lines : List (List ℕ)) (i : Instance) (is : List Instance)
-    → IsLineOf d line i → AreLinesOf d lines is → AreLinesOf d (line ∷ lines) (i ∷ is)
+      → IsLineOf d line i → AreLinesOf d lines is → AreLinesOf d (line ∷ lines) (i ∷ is)
 
 -- the same behind the first line that isn't skipped, which is `.text`
 pub data BeginsText (d : RawDescription) : List (List ℕ) → List Instance → Type 0 where
   skipped : (line : List ℕ) (lines : List (List ℕ)) (is : List Instance) → IsSkipped line → BeginsText d lines is → BeginsText d (line ∷ lines) is
   begin : (line : List ℕ) (lines : List (List ℕ)) (is : List Instance)
-    → Spells is_blank_or_tab line (Name (codes ".text") ∷ []) → AreLinesOf d lines is → BeginsText d (line ∷ lines) is
+      → Spells is_blank_or_tab line (Name (codes ".text") ∷ []) → AreLinesOf d lines is → BeginsText d (line ∷ lines) is
 
 -- the bytes are an assembly text of the described machine, and this is its program
 pub record IsText (d : RawDescription) (bytes : List ℕ) (program : List Instance) : Type 0 where

@@ -9,11 +9,10 @@ ghost use Rattle.md_rows.specs.Instances.{piece_token, hole_token, tokens_with};
 ghost use Rattle.vpo_top.specs.Compiled.{binding_of, instance_of, call_instructions, row_line, instruction_line, instruction_lines, compiled_text};
 ghost use Rattle.vpo_top.specs.Spacing.{separator, next_before, line_from, with_token};
 
+use crate::source::SourceProgram;
 use asm_token::token::{Token, push_token};
 use md_rows::{Hole, Piece, RawDescription, Row, number_of_word};
 use std::alloc::{AllocError, Global};
-
-use crate::source::SourceProgram;
 
 /// The row that sets the result register to a number.
 const SET_ROW: usize = 0;
@@ -36,7 +35,11 @@ enum Before {
 }
 
 /// The assembly text of a source for a machine of the first form.
-pub fn write_assembly(alloc: Global, machine: &RawDescription, program: &SourceProgram) -> Result<Vec<u8>, AllocError>
+pub fn write_assembly(
+    alloc: Global,
+    machine: &RawDescription,
+    program: &SourceProgram,
+) -> Result<Vec<u8>, AllocError>
     requires { IsWordSize machine.now.word }
     ensures { IfOk result (λ text. text.items ≡ compiled_text machine.now program.now) }
 {
@@ -59,7 +62,12 @@ fn push_calls(text: &mut Vec<u8>, machine: &RawDescription, calls: &[u16]) -> Re
 }
 
 /// The line of a row with a number in its hole, if it has one.
-fn push_instruction(text: &mut Vec<u8>, machine: &RawDescription, row: usize, number: Option<u16>) -> Result<(), AllocError>
+fn push_instruction(
+    text: &mut Vec<u8>,
+    machine: &RawDescription,
+    row: usize,
+    number: Option<u16>,
+) -> Result<(), AllocError>
     requires { IsWordSize machine.now.word }
     ensures { OnOk result (text.new.items ≡ text.old.items ++ instruction_line machine.now (instance_of row number)) }
 {
@@ -80,19 +88,32 @@ fn push_row(text: &mut Vec<u8>, bits: u32, row: &Row, number: Option<u16>) -> Re
     Ok(())
 }
 
-fn push_tokens(text: &mut Vec<u8>, bits: u32, row: &Row, number: Option<u16>) -> Result<(), AllocError>
+fn push_tokens(
+    text: &mut Vec<u8>,
+    bits: u32,
+    row: &Row,
+    number: Option<u16>,
+) -> Result<(), AllocError>
     requires { IsWordSize bits }
     ensures { OnOk result (text.new.items ≡ text.old.items ++ line_from Before.Start (tokens_with bits row.now (binding_of number))) }
 {
     let mut before = Before::Start;
     for piece in row.text.as_slice() {
-        before = push_piece(text, before, token_of_piece(bits, row.holes.as_slice(), number, piece))?;
+        before = push_piece(
+            text,
+            before,
+            token_of_piece(bits, row.holes.as_slice(), number, piece),
+        )?;
     }
     Ok(())
 }
 
 /// Appends a token, if there is one, and tells what then stands before the next.
-fn push_piece(text: &mut Vec<u8>, before: Before, token: Option<Token<'_>>) -> Result<Before, AllocError>
+fn push_piece(
+    text: &mut Vec<u8>,
+    before: Before,
+    token: Option<Token<'_>>,
+) -> Result<Before, AllocError>
     ensures { IfOk result (λ next. (ts : List SpecToken) → text.new.items ++ line_from next ts ≡ text.old.items ++ line_from before (with_token (option_map token_of token.entry) ts)) }
 {
     let Some(token) = token else {
@@ -140,7 +161,12 @@ fn is_name_or_number(token: Token<'_>) -> bool
 }
 
 /// The token of a piece, where the row has a number hole at most.
-fn token_of_piece<'a>(bits: u32, holes: &[Hole], number: Option<u16>, piece: &'a Piece) -> Option<Token<'a>>
+fn token_of_piece<'a>(
+    bits: u32,
+    holes: &[Hole],
+    number: Option<u16>,
+    piece: &'a Piece,
+) -> Option<Token<'a>>
     requires { IsWordSize bits }
     ensures { option_map token_of result ≡ piece_token bits holes.now (binding_of number) piece.now }
 {
@@ -159,7 +185,14 @@ fn number_of_hole(bits: u32, holes: &[Hole], number: Option<u16>, hole: u8) -> O
     requires { IsWordSize bits }
     ensures { option_map NumberToken result ≡ hole_token bits (slice_get holes.now hole) (slice_get (binding_of number) hole) }
 {
-    let Some(Hole::Num { low, high, inverted }) = holes.get(usize::from(hole)) else {
+    let Some(
+        Hole::Num {
+            low,
+            high,
+            inverted,
+        },
+    ) = holes.get(usize::from(hole))
+    else {
         return None;
     };
     match number {

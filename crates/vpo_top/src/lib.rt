@@ -11,9 +11,9 @@ pub mod report;
 mod request;
 pub mod source;
 pub mod source_run;
-pub mod theorem;
 #[cfg(test)]
 mod tests;
+pub mod theorem;
 mod top;
 
 pub use top::vpo;

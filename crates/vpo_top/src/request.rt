@@ -7,7 +7,10 @@ ghost use Rattle.vpo_top.specs.Request.{request_of, bytes_of_words, is_file_word
 #[derive(Clone, Copy, Debug)]
 pub enum Request<'a> {
     /// The source in a file is compiled for the machine that a file describes.
-    Compile { description: &'a str, source: &'a str },
+    Compile {
+        description: &'a str,
+        source: &'a str,
+    },
 }
 
 /// A word that may name a file isn't empty, and no option.
@@ -29,7 +32,10 @@ pub fn read_request(words: &[String]) -> Option<Request<'_>>
     };
     let (description, source) = (description.as_str(), source.as_str());
     if command.as_str() == "cc" && names_file(description) && names_file(source) {
-        Some(Request::Compile { description, source })
+        Some(Request::Compile {
+            description,
+            source,
+        })
     } else {
         None
     }

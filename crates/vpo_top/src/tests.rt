@@ -5,7 +5,8 @@ use std::alloc::{AllocError, Global};
 use std::test::Fail;
 use vp_io::{MemFile, MemFiles, MemSink, Outcome, Reason, SafeSource, Which};
 
-const TINY: &[u8] = b"vpo 1\nname tiny\nword 16\nmemory 4096\ndata 64\nstack 1024\nreg 0 a result\nrow set <n:word>,a | r[0] = <n>\nrow put | OUT = r[0]\nrow end | HALT = r[0]\n";
+const TINY: &[u8] =
+    b"vpo 1\nname tiny\nword 16\nmemory 4096\ndata 64\nstack 1024\nreg 0 a result\nrow set <n:word>,a | r[0] = <n>\nrow put | OUT = r[0]\nrow end | HALT = r[0]\n";
 
 const HELLO: &[u8] = b"#include <stdio.h>\nint main(void){putchar(72);putchar(321);return 7;}\n";
 
@@ -52,7 +53,14 @@ fn run(
     let mut input = SafeSource::new(Vec::new(alloc));
     let mut output = output;
     let mut errors = errors;
-    let outcome = vpo(alloc, &owned, &mut files, &mut input, &mut output, &mut errors);
+    let outcome = vpo(
+        alloc,
+        &owned,
+        &mut files,
+        &mut input,
+        &mut output,
+        &mut errors,
+    );
     Ok(Seen {
         outcome,
         output,
@@ -77,7 +85,10 @@ fn compile(alloc: Global, description: &[u8], source: &[u8]) -> Result<Seen, All
 fn a_text_is_written(rt: HostRuntime) -> Result<(), Fail> {
     let seen = compile(rt.alloc(), TINY, HELLO)?;
     assert_eq!(rt; seen.outcome, Outcome::Done(0));
-    assert_eq!(rt; seen.output.bytes(), b".text\n\tset 72,a\n\tput\n\tset 321,a\n\tput\n\tset 7,a\n\tend\n".as_slice());
+    assert_eq!(rt;
+        seen.output.bytes(),
+        b".text\n\tset 72,a\n\tput\n\tset 321,a\n\tput\n\tset 7,a\n\tend\n".as_slice()
+    );
     assert_eq!(rt; seen.errors.bytes(), b"".as_slice());
     Ok(())
 }
@@ -89,7 +100,10 @@ fn a_source_is_refused(rt: HostRuntime) -> Result<(), Fail> {
     assert_eq!(rt; seen.outcome, Outcome::BadSource(NOT_BUILT));
     assert_eq!(rt; seen.outcome.code(), 67);
     assert_eq!(rt; seen.output.bytes(), b"".as_slice());
-    assert_eq!(rt; seen.errors.bytes(), b"vpo: source line 1 column 1: rule 50\n".as_slice());
+    assert_eq!(rt;
+        seen.errors.bytes(),
+        b"vpo: source line 1 column 1: rule 50\n".as_slice()
+    );
     Ok(())
 }
 
@@ -99,7 +113,10 @@ fn a_description_is_refused_before_the_source(rt: HostRuntime) -> Result<(), Fai
     assert_eq!(rt; seen.outcome, Outcome::BadDescription(NOT_BUILT));
     assert_eq!(rt; seen.outcome.code(), 66);
     assert_eq!(rt; seen.output.bytes(), b"".as_slice());
-    assert_eq!(rt; seen.errors.bytes(), b"vpo: description line 1: rule 50 (0)\n".as_slice());
+    assert_eq!(rt;
+        seen.errors.bytes(),
+        b"vpo: description line 1: rule 50 (0)\n".as_slice()
+    );
     Ok(())
 }
 
@@ -118,7 +135,13 @@ fn words_are_refused(rt: HostRuntime) -> Result<(), Fail> {
         &["run", "d", "s"],
     ];
     for words in rows {
-        let seen = run(alloc, words, Vec::new(alloc), sink(alloc, 16)?, sink(alloc, 256)?)?;
+        let seen = run(
+            alloc,
+            words,
+            Vec::new(alloc),
+            sink(alloc, 16)?,
+            sink(alloc, 256)?,
+        )?;
         assert_eq!(rt; seen.outcome, Outcome::BadWords);
         assert_eq!(rt; seen.outcome.code(), 64);
         assert_eq!(rt; seen.output.bytes(), b"".as_slice());
@@ -153,7 +176,10 @@ fn long_files_are_refused(rt: HostRuntime) -> Result<(), Fail> {
     assert_eq!(rt; seen.outcome.code(), 65);
     let seen = compile(alloc, TINY, &blanks)?;
     assert_eq!(rt; seen.outcome, Outcome::FileTooLong(Which::Text));
-    assert_eq!(rt; seen.errors.bytes(), b"vpo: file too long: source\n".as_slice());
+    assert_eq!(rt;
+        seen.errors.bytes(),
+        b"vpo: file too long: source\n".as_slice()
+    );
     let seen = compile(alloc, TINY, &blanks[1..])?;
     assert_eq!(rt; seen.outcome, Outcome::BadSource(NOT_BUILT));
     Ok(())
@@ -163,13 +189,29 @@ fn long_files_are_refused(rt: HostRuntime) -> Result<(), Fail> {
 fn files_that_fail(rt: HostRuntime) -> Result<(), Fail> {
     let alloc = rt.alloc();
     for (no_description, no_source, which, line) in [
-        (true, true, Which::Description, b"vpo: read fault: description\n".as_slice()),
-        (false, true, Which::Text, b"vpo: read fault: source\n".as_slice()),
+        (
+            true,
+            true,
+            Which::Description,
+            b"vpo: read fault: description\n".as_slice(),
+        ),
+        (
+            false,
+            true,
+            Which::Text,
+            b"vpo: read fault: source\n".as_slice(),
+        ),
     ] {
         let mut files = Vec::new(alloc);
         files.push(file(alloc, "d", TINY, no_description)?)?;
         files.push(file(alloc, "s", HELLO, no_source)?)?;
-        let seen = run(alloc, &["cc", "d", "s"], files, sink(alloc, 99)?, sink(alloc, 99)?)?;
+        let seen = run(
+            alloc,
+            &["cc", "d", "s"],
+            files,
+            sink(alloc, 99)?,
+            sink(alloc, 99)?,
+        )?;
         assert_eq!(rt; seen.outcome, Outcome::ReadFault(which));
         assert_eq!(rt; seen.outcome.code(), 71);
         assert_eq!(rt; seen.output.bytes(), b"".as_slice());

@@ -8,15 +8,14 @@ ghost use Rattle.vpo_top.specs.Messages.{IsReported};
 ghost use Rattle.vpo_top.specs.Judgement.{byte_limit, IsDescribedBy, IsSpelledBy, IsFetchRefusal, IsAccepted, IsCompiled, IsRefusalOfDescription, JudgesDescription, IsRefusalOfSource, JudgesSource, Judges, HasFetchCause, HasOutsideCause, IsRefusal, IsOfCompilation, OfFiles, CountsOnlyOf};
 ghost use Rattle.vpo_top.specs.Headline.{IsCompiledTo, IsWritten};
 
-use md_rows::RawDescription;
-use std::alloc::Global;
-use vp_io::{FetchFault, Files, Outcome, Reason, Sink, Source, Which, fetch_whole, write_whole};
-
 use crate::assembly::write_assembly;
 use crate::description::{DescriptionFault, read_description};
 use crate::report::report;
 use crate::request::{Request, read_request};
 use crate::source::{SourceFault, SourceProgram, read_source};
+use md_rows::RawDescription;
+use std::alloc::Global;
+use vp_io::{FetchFault, Files, Outcome, Reason, Sink, Source, Which, fetch_whole, write_whole};
 
 /// The most bytes of a description, and of a source.
 const BYTE_LIMIT: u64 = 1_048_576;
@@ -44,7 +43,7 @@ pub fn vpo<F: Files, S: Source, K: Sink, E: Sink>(
     // What is written is an assembly text of the described machine that does what the source does.
     ensures headline { ForCompilation (request_of (bytes_of_words words.now.items)) (λ description source.
         OfFiles (F.files files.old) description source (λ machine_text source_text.
-            IsWritten machine_text source_text (K.written output.old) (K.written output.new) result)) }
+        IsWritten machine_text source_text (K.written output.old) (K.written output.new) result)) }
     // Each outcome comes exactly where the two files give cause for it.
     ensures judged { ForCompilation (request_of (bytes_of_words words.now.items)) (λ description source.
         OfFiles (F.files files.old) description source (λ machine_text source_text. Judges machine_text source_text result)) }
@@ -69,11 +68,16 @@ pub fn vpo<F: Files, S: Source, K: Sink, E: Sink>(
     outcome
 }
 
-fn answer<F: Files, K: Sink>(alloc: Global, words: &[String], files: &mut F, output: &mut K) -> Outcome
+fn answer<F: Files, K: Sink>(
+    alloc: Global,
+    words: &[String],
+    files: &mut F,
+    output: &mut K,
+) -> Outcome
     ensures bad_words { (result ≡ Outcome.BadWords) ↔ (request_of (bytes_of_words words.now) ≡ None) }
     ensures headline { ForCompilation (request_of (bytes_of_words words.now)) (λ description source.
         OfFiles (F.files files.old) description source (λ machine_text source_text.
-            IsWritten machine_text source_text (K.written output.old) (K.written output.new) result)) }
+        IsWritten machine_text source_text (K.written output.old) (K.written output.new) result)) }
     ensures judged { ForCompilation (request_of (bytes_of_words words.now)) (λ description source.
         OfFiles (F.files files.old) description source (λ machine_text source_text. Judges machine_text source_text result)) }
     ensures possible { ForCompilation (request_of (bytes_of_words words.now)) (λ _ _. IsOfCompilation result) }
@@ -86,12 +90,23 @@ fn answer<F: Files, K: Sink>(alloc: Global, words: &[String], files: &mut F, out
     ensures untouched { IsRefusal result → output.new ≡ output.old }
 {
     match read_request(words) {
-        Some(Request::Compile { description, source }) => compile_to(alloc, files, description, source, output),
+        Some(
+            Request::Compile {
+                description,
+                source,
+            },
+        ) => compile_to(alloc, files, description, source, output),
         None => Outcome::BadWords,
     }
 }
 
-fn compile_to<F: Files, K: Sink>(alloc: Global, files: &mut F, description: &str, source: &str, output: &mut K) -> Outcome
+fn compile_to<F: Files, K: Sink>(
+    alloc: Global,
+    files: &mut F,
+    description: &str,
+    source: &str,
+    output: &mut K,
+) -> Outcome
     ensures headline { OfFiles (F.files files.old) description.now source.now (λ machine_text source_text.
         IsWritten machine_text source_text (K.written output.old) (K.written output.new) result) }
     ensures judged { OfFiles (F.files files.old) description.now source.now (λ machine_text source_text.
@@ -113,7 +128,12 @@ fn compile_to<F: Files, K: Sink>(alloc: Global, files: &mut F, description: &str
 }
 
 /// The text of a compilation, or why there is none.
-fn compile<F: Files>(alloc: Global, files: &mut F, description: &str, source: &str) -> Result<Vec<u8>, Outcome>
+fn compile<F: Files>(
+    alloc: Global,
+    files: &mut F,
+    description: &str,
+    source: &str,
+) -> Result<Vec<u8>, Outcome>
     ensures compiled { OfFiles (F.files files.old) description.now source.now (λ machine_text source_text.
         IfOk result (λ text. IsCompiledTo machine_text source_text text.items)) }
     ensures accepted { OfFiles (F.files files.old) description.now source.now (λ machine_text source_text.
@@ -136,7 +156,11 @@ fn compile<F: Files>(alloc: Global, files: &mut F, description: &str, source: &s
     }
 }
 
-fn read_machine<F: Files>(alloc: Global, files: &mut F, name: &str) -> Result<RawDescription, Outcome>
+fn read_machine<F: Files>(
+    alloc: Global,
+    files: &mut F,
+    name: &str,
+) -> Result<RawDescription, Outcome>
     ensures found { OfFile (F.files files.old) name.now (λ text. IfOk result (λ machine. IsDescribedBy text machine)) }
     ensures size { IfOk result (λ machine. IsWordSize machine.word) }
     ensures judged { OfFile (F.files files.old) name.now (λ text. IfErr result (λ outcome. JudgesDescription text outcome)) }
@@ -153,7 +177,11 @@ fn read_machine<F: Files>(alloc: Global, files: &mut F, name: &str) -> Result<Ra
     }
 }
 
-fn read_program<F: Files>(alloc: Global, files: &mut F, name: &str) -> Result<SourceProgram, Outcome>
+fn read_program<F: Files>(
+    alloc: Global,
+    files: &mut F,
+    name: &str,
+) -> Result<SourceProgram, Outcome>
     ensures found { OfFile (F.files files.old) name.now (λ text. IfOk result (λ program. IsSpelledBy text program)) }
     ensures judged { OfFile (F.files files.old) name.now (λ text. IfErr result (λ outcome. JudgesSource text outcome)) }
     ensures possible { IfErr result (λ outcome. IsRefusalOfSource outcome) }
@@ -170,7 +198,12 @@ fn read_program<F: Files>(alloc: Global, files: &mut F, name: &str) -> Result<So
 }
 
 /// The bytes of a file, which is told as `which` in a refusal.
-fn fetch<F: Files>(alloc: Global, files: &mut F, name: &str, which: Which) -> Result<Vec<u8>, Outcome>
+fn fetch<F: Files>(
+    alloc: Global,
+    files: &mut F,
+    name: &str,
+    which: Which,
+) -> Result<Vec<u8>, Outcome>
     ensures bytes { OfFile (F.files files.old) name.now (λ file. IfOk result (λ text. text.items ≡ file)) }
     ensures short { IfOk result (λ text. length text.items ≤ byte_limit) }
     ensures too_long { IsErrOf result (Outcome.FileTooLong which) → OfFile (F.files files.old) name.now (λ file. byte_limit < length file) }

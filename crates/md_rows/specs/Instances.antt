@@ -4,7 +4,7 @@ use Rattle.asm_token.specs.Tokens.{Token, Name as NameToken, Number as NumberTok
 use Rattle.rtl_tree.specs.Trees.{Tree, Number, Symbol, CodeLabel, Read, Load, Unary, Binary, AnyNumber, AnyName}
 use Rattle.rtl_tree.specs.Moves.{Goal, ToCell, ToMemory, Move}
 use Rattle.rtl_tree.specs.declared.cells.Cell.{Cell}
-use Rattle.rtl_tree.specs.declared.cells.Cell.TheVariants.{Hard, Hole as RegisterHole}
+use Rattle.rtl_tree.specs.declared.cells.Cell.TheVariants.{Hard, Temp, Hole as RegisterHole}
 use Rattle.md_rows.specs.declared.description.Register.{Register}
 use Rattle.md_rows.specs.declared.description.Role.{Role}
 use Rattle.md_rows.specs.declared.description.Role.TheVariants.{General}
@@ -90,13 +90,15 @@ AllFit w g [] [] = Unit {0}
 AllFit w g (h ∷ hs) (v ∷ vs) = IsTrue (fits w g h v) × AllFit w g hs vs
 AllFit w g _ _ = ⊥
 
--- the register that a move assigns
-abbrev pub assigned_register : Goal → Option ℕ
-assigned_register (ToCell (Hard k)) = Some k
+-- the register or temporary that a move assigns
+abbrev pub assigned_register : Goal → Option Cell
+assigned_register (ToCell (Hard k)) = Some (Hard k)
+assigned_register (ToCell (Temp n)) = Some (Temp n)
 assigned_register _ = None
 
--- a row with a binding is an instruction: each value fits its hole, and no two assigned registers become one
+-- a row with a binding is an instruction: each value fits its hole, and no two assigned registers become one; so far no row's longest
+-- line passes 640 bytes
 pub record IsInstance (d : RawDescription) (i : Instance) (row : Row) : Type 0 where
   pub has_row : slice_get d.rows i.row ≡ Some row
   pub fit : AllFit d.word (general_set d.registers) row.holes i.binding
-  pub different : AllPairs (λ j k. j ≢ k) (filter_map (λ m. assigned_register m.to) (effects_with row i.binding))
+  pub different : AllPairs (λ c d. c ≢ d) (filter_map (λ m. assigned_register m.to) (effects_with row i.binding))

@@ -1,9 +1,9 @@
 -- Each description and each source that are read have a text of the described machine that does what the source does.
-use Rattle.std.proofs.Common.{ℕ, ◌%◌, ◌≤◌, List, [], ◌∷◌, ◌++◌, map, refl, sym, subst}
+use Rattle.std.proofs.Common.{◌≡◌, ℕ, ◌+◌, ◌*◌, ◌%◌, ◌≤◌, Bool, true, false, cond, List, [], ◌∷◌, ◌++◌, length, map, refl, sym, subst, arith}
 use Rattle.std.proofs.lemmas.List.Elements.{All-head, All-tail, All-nil, All-cons}
 use Rattle.std.proofs.lemmas.List.Sums.{AllPass-from_list_all}
 use Rattle.std.specs.List.{All}
-use Rattle.std.specs.Prelude.{codes, flat_map}
+use Rattle.std.specs.Prelude.{codes, flat_map, ◌==◌}
 use Rattle.behaviour.specs.Run.{Same}
 use Rattle.behaviour.proofs.Reaching.{ended_same}
 use Rattle.asm_token.specs.Tokens.{Name, IsToken, Spells, is_name_byte, is_blank_or_tab}
@@ -15,7 +15,7 @@ use Rattle.vpo_top.specs.declared.source.SourceProgram.{SourceProgram}
 use Rattle.vpo_top.specs.FirstDescription.{FirstForm, RowTexts, SpellsForm, IsDescription, description_of}
 use Rattle.vpo_top.specs.Source.{SpellsSource, IsWithinLimits}
 use Rattle.vpo_top.specs.SourceRun.{source_run}
-use Rattle.vpo_top.specs.Assembly.{IsText, IsLines, BeginsText}
+use Rattle.vpo_top.specs.Assembly.{IsText, IsLines, BeginsText, instruction_limit}
 use Rattle.vpo_top.specs.MachineRun.{machine_run}
 use Rattle.vpo_top.specs.Compiled.{set_to, put, finish, call_instructions, return_instructions, instructions_of, instruction_lines, compiled_text}
 use Rattle.vpo_top.specs.Headline.{IsCompiledTo}
@@ -23,7 +23,8 @@ use Rattle.vpo_top.proofs.SourceText.{source_within}
 use Rattle.vpo_top.proofs.SourceRunLaws.{source_run_runs}
 use Rattle.vpo_top.proofs.RowTokens.{spelled_tokens}
 use Rattle.vpo_top.proofs.NoLineFeed.{IsNoFeed, token_without}
-use Rattle.vpo_top.proofs.TextLines.{HaveLines, none, more, TextLines, text_lines}
+use Rattle.vpo_top.proofs.LineLengths.{are_short}
+use Rattle.vpo_top.proofs.TextLines.{HaveLines, none, more, TextLines, IsWithinLimit, text_lines}
 use Rattle.vpo_top.proofs.InstructionLines.{HasLiterals, set_line, put_line, end_line}
 use Rattle.vpo_top.proofs.MachinePrints.{machine_run_runs}
 use Rattle.vpo_top.proofs.MachineEnds.{machine_ends}
@@ -36,6 +37,7 @@ literals_of bytes f t s = record {
   put = spelled_tokens s.put.spells;
   «end» = spelled_tokens s.«end».spells;
   names = s.names;
+  short = are_short bytes f t s;
 }
 
 return_lines : (f : FirstForm) → HasLiterals f → (status : ℕ) → status ≤ 32767 → HaveLines (description_of f) (return_instructions status)
@@ -59,15 +61,30 @@ head_spells = line_reads_back is_blank_or_tab (Name (codes ".text") ∷ []) refl
 head_is_line : All IsNoFeed (codes ".text")
 head_is_line = token_without (Name (codes ".text")) head_is_token
 
-whole_text : (d : RawDescription) (is : List Instance) → TextLines d is (instruction_lines d is) → IsText d (codes ".text\n" ++ instruction_lines d is) is
-whole_text d is t = record {
+-- a program of 1,000 calls has few instructions
+
+call_count : (ns : List ℕ) (status : ℕ) → length (flat_map call_instructions ns ++ return_instructions status) ≡ 2 * length ns + 2
+call_count [] status = omega arith
+call_count (n ∷ ns) status = omega (arith, call_count ns status)
+
+by_size : (b : Bool) (n : ℕ) → n ≤ 65535 → n ≤ cond b 65535 1000000
+by_size true n h = h
+by_size false n h = omega arith
+
+few_instructions : (w : ℕ) (p : SourceProgram) → IsWithinLimits p → length (instructions_of p) ≤ instruction_limit w
+few_instructions w p h = by_size (w == 16) (length (instructions_of p)) (omega (arith, h.few, call_count p.calls p.status))
+
+whole_text : (d : RawDescription) (is : List Instance) → length is ≤ instruction_limit d.word → TextLines d is (instruction_lines d is) → IsText d (codes ".text\n" ++ instruction_lines d is) is
+whole_text d is few t = record {
   lines = codes ".text" ∷ t.lines;
   cut = IsLines.one_line (codes ".text") (instruction_lines d is) t.lines head_is_line t.cut;
+  short = All-cons IsWithinLimit (codes ".text") t.lines (omega arith) t.short;
   read = BeginsText.begin (codes ".text") t.lines is head_spells t.are;
+  few = few;
 }
 
 pub text_of_program : (f : FirstForm) (p : SourceProgram) → HasLiterals f → IsWithinLimits p → IsText (description_of f) (compiled_text (description_of f) p) (instructions_of p)
-text_of_program f p l h = whole_text (description_of f) (instructions_of p) (text_lines (description_of f) (instructions_of p) (call_lines f l p.calls p.status h.arguments h.status))
+text_of_program f p l h = whole_text (description_of f) (instructions_of p) (few_instructions f.word p h) (text_lines (description_of f) (instructions_of p) (call_lines f l p.calls p.status h.arguments h.status))
 
 -- the source and its program on the machine end alike
 pub runs_alike : (f : FirstForm) (p : SourceProgram) (input : List ℕ) → Same (source_run p input) (machine_run (description_of f) (instructions_of p) input)

@@ -1,5 +1,5 @@
 -- Each compiled line is one instruction of the machine, and no other.
-use Rattle.std.proofs.Common.{◌≡◌, ℕ, ◌^◌, ◌≤◌, ◌⊎◌, ℤ, pos, List, [], ◌∷◌, ◌++◌, Some, refl, sym, ap, ◌∙◌, subst, arith}
+use Rattle.std.proofs.Common.{◌≡◌, ℕ, ◌^◌, ◌≤◌, ◌⊎◌, ℤ, pos, List, [], ◌∷◌, ◌++◌, length, Some, refl, sym, ap, ◌∙◌, subst, arith}
 use Rattle.std.proofs.lemmas.Bool.{and_from, lt-ltb}
 use Rattle.std.proofs.lemmas.List.Elements.{All-cons, All-append}
 use Rattle.std.specs.List.{All}
@@ -18,7 +18,8 @@ use Rattle.vpo_top.specs.Compiled.{set_to, put, finish, instruction_line}
 use Rattle.vpo_top.proofs.HoleNumbers.{half_word, whole_word, printed_itself}
 use Rattle.vpo_top.proofs.RowTokens.{set_row, put_row, end_row, printed_word, set_tokens, set_row_tokens, put_row_tokens, end_row_tokens, Reads, sets, puts, ends, row_reads, begins_more, names_apart, set_number}
 use Rattle.vpo_top.proofs.NoLineFeed.{line_without, IsNoFeed}
-use Rattle.vpo_top.proofs.TextLines.{HasLine}
+use Rattle.vpo_top.proofs.LineLengths.{AreShort, spaced_length, line_length, set_length}
+use Rattle.vpo_top.proofs.TextLines.{HasLine, IsWithinLimit}
 
 -- what the lines need of a form
 pub record HasLiterals (f : FirstForm) : Type 0 where
@@ -28,6 +29,7 @@ pub record HasLiterals (f : FirstForm) : Type 0 where
   pub put : All IsToken f.put
   pub «end» : All IsToken f.«end»
   pub names : HaveNames f
+  pub short : AreShort f
 
 same_instance : (j i : Instance) → j.row ≡ i.row → j.binding ≡ i.binding → j ≡ i
 same_instance j i e h =
@@ -47,8 +49,11 @@ tab_line ts h = after_gap 9 (line_of ts) ts refl (line_reads_back is_blank_or_ta
 one_line : (ts : List Token) → All IsToken ts → All IsNoFeed (9 ∷ line_of ts)
 one_line ts h = All-cons IsNoFeed 9 (line_of ts) (λ e. cc) (line_without ts h)
 
+short_line : (ts : List Token) → spaced_length ts ≤ 516 → IsWithinLimit (9 ∷ line_of ts)
+short_line ts h = omega (arith, line_length ts)
+
 -- an instruction with these tokens has a line of its own, if no other has them
-module _ (f : FirstForm) (i : Instance) (row : Row) (ts : List Token) (is : IsInstance (description_of f) i row) (tokens : tokens_with f.word row i.binding ≡ ts) (all : All IsToken ts) where
+module _ (f : FirstForm) (i : Instance) (row : Row) (ts : List Token) (is : IsInstance (description_of f) i row) (tokens : tokens_with f.word row i.binding ≡ ts) (all : All IsToken ts) (short : spaced_length ts ≤ 516) where
   has_tokens : HasTokensOf (description_of f) (9 ∷ line_of ts) i
   has_tokens = record { row = row; instance = is; spells = subst (λ us. Spells is_blank_or_tab (9 ∷ line_of ts) us) (sym tokens) (tab_line ts all) }
 
@@ -57,6 +62,7 @@ module _ (f : FirstForm) (i : Instance) (row : Row) (ts : List Token) (is : IsIn
     line = 9 ∷ line_of ts;
     bytes = bytes ∙ ap (λ us. 9 ∷ (line_of us ++ 10 ∷ [])) tokens;
     one = one_line ts all;
+    short = short_line ts short;
     is = record { has = has_tokens; only = λ j h. only j (line_reads f (9 ∷ line_of ts) ts j (tab_line ts all) h) };
   }
 
@@ -102,10 +108,10 @@ module _ (f : FirstForm) (l : HasLiterals f) where
   set_all n h = All-append IsToken f.before_hole (Number (pos n) ∷ f.after_hole) l.before_hole (All-cons IsToken (Number (pos n)) f.after_hole (omega arith) l.after_hole)
 
   pub set_line : (n : ℕ) → n ≤ 32767 → HasLine (description_of f) (set_to n)
-  set_line n h = line_is f (set_to n) (set_row f) (set_tokens f (pos n)) (set_is n h) (set_row_tokens f n (pos n) (prints n h)) (set_all n h) (set_only n) refl
+  set_line n h = line_is f (set_to n) (set_row f) (set_tokens f (pos n)) (set_is n h) (set_row_tokens f n (pos n) (prints n h)) (set_all n h) (set_length f n l.short h) (set_only n) refl
 
   pub put_line : HasLine (description_of f) put
-  put_line = line_is f put (put_row f) f.put put_is (put_row_tokens f) l.put put_only refl
+  put_line = line_is f put (put_row f) f.put put_is (put_row_tokens f) l.put (omega (arith, l.short.put)) put_only refl
 
   pub end_line : HasLine (description_of f) finish
-  end_line = line_is f finish (end_row f) f.«end» end_is (end_row_tokens f) l.«end» end_only refl
+  end_line = line_is f finish (end_row f) f.«end» end_is (end_row_tokens f) l.«end» (omega (arith, l.short.«end»)) end_only refl

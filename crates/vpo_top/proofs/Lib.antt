@@ -15,6 +15,7 @@ mod Outcomes
 pub mod HoleNumbers
 pub mod RowTokens
 pub mod NoLineFeed
+pub mod LineLengths
 pub mod TextLines
 pub mod InstructionLines
 pub mod Turns

@@ -1,7 +1,6 @@
--- Assembly texts, and the program of a text.
-use Rattle.std.specs.Prelude.{◌≡◌, ◌≢◌, ◌⊎◌, ℕ, ◌<◌, Bool, ◌||◌, ◌==◌, IsTrue, List, [], ◌∷◌, ◌++◌, length, All, codes, flat_map}
-use Rattle.asm_token.specs.Tokens.{Token, Name, Spells, is_blank_or_tab}
-use Rattle.asm_token.specs.Line.{line_of}
+-- Assembly texts, so far without labels and data, and the program of a text.
+use Rattle.std.specs.Prelude.{◌≡◌, ◌≢◌, ℕ, ◌<◌, ◌≤◌, cond, ◌==◌, IsTrue, List, [], ◌∷◌, ◌++◌, length, All, codes}
+use Rattle.asm_token.specs.Tokens.{Name, Spells, is_blank_or_tab}
 use Rattle.md_rows.specs.declared.description.RawDescription.{RawDescription}
 use Rattle.md_rows.specs.declared.instance.Instance.{Instance}
 use Rattle.md_rows.specs.declared.row.Row.{Row}
@@ -42,8 +41,18 @@ pub data BeginsText (d : RawDescription) : List (List ℕ) → List Instance →
   begin : (line : List ℕ) (lines : List (List ℕ)) (is : List Instance)
       → Spells is_blank_or_tab line (Name (codes ".text") ∷ []) → AreLinesOf d lines is → BeginsText d (line ∷ lines) is
 
+-- the most bytes of a line, without its line feed
+abbrev pub line_limit : ℕ
+line_limit = 640
+
+-- the most instructions of a program, on words of w bits
+abbrev pub instruction_limit : ℕ → ℕ
+instruction_limit w = cond (w == 16) 65535 1000000
+
 -- the bytes are an assembly text of the described machine, and this is its program
 pub record IsText (d : RawDescription) (bytes : List ℕ) (program : List Instance) : Type 0 where
   pub lines : List (List ℕ)
   pub cut : IsLines bytes lines
+  pub short : All (λ line. length line ≤ line_limit) lines
   pub read : BeginsText d lines program
+  pub few : length program ≤ instruction_limit d.word

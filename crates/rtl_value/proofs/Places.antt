@@ -1,5 +1,5 @@
 -- The place of a label is one of the places that are listed, or 0.
-use Rattle.std.proofs.Common.{◌≡◌, ◌<◌, ◌^◌, ℕ, zero, suc, Bool, true, false, List, [], ◌∷◌, Option, Some, arith}
+use Rattle.std.proofs.Common.{◌<◌, ◌^◌, ℕ, zero, suc, Bool, true, false, List, [], ◌∷◌, Option, Some, arith}
 use Rattle.std.proofs.lemmas.Nat.{pow_pos}
 use Rattle.std.specs.Prelude.{All, if◌then◌else◌}
 use Rattle.rtl_tree.specs.declared.cells.Lab.{Lab}

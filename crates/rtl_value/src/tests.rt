@@ -50,80 +50,82 @@ fn state(alloc: Global) -> Result<State, NoMemory> {
     })
 }
 
-fn unary(alloc: Global, operator: UnOp, a: Expr) -> Result<Expr, NoMemory> {
-    Ok(Expr::Un(operator, Box::new(alloc, a)?))
+fn load(alloc: Global, width: Width, at: u32) -> Result<Expr, NoMemory> {
+    Ok(Expr::Mem(width, Box::new(alloc, Expr::Num(at))?))
 }
 
-fn binary(alloc: Global, operator: BinOp, a: Expr, b: Expr) -> Result<Expr, NoMemory> {
-    let a = Box::new(alloc, a)?;
-    Ok(Expr::Bin(operator, a, Box::new(alloc, b)?))
+fn test_of(alloc: Global, flag: u8) -> Result<Expr, NoMemory> {
+    let flag = Box::new(alloc, Expr::Cell(Cell::Flag(flag)))?;
+    Ok(Expr::Un(UnOp::Test(Rel::Lt), flag))
 }
 
-fn load(alloc: Global, width: Width, a: Expr) -> Result<Expr, NoMemory> {
-    Ok(Expr::Mem(width, Box::new(alloc, a)?))
+fn binary(alloc: Global, operator: BinOp, a: u32, b: u32) -> Result<Expr, NoMemory> {
+    let a = Box::new(alloc, Expr::Num(a))?;
+    Ok(Expr::Bin(operator, a, Box::new(alloc, Expr::Num(b))?))
 }
 
-// The value in the state above.
+// 1 by 0, and a byte outside memory.
+fn division_and_read(alloc: Global) -> Result<Expr, NoMemory> {
+    let divided = Box::new(alloc, binary(alloc, BinOp::Div, 1, 0)?)?;
+    let read = Box::new(alloc, load(alloc, Width::Byte, 100)?)?;
+    Ok(Expr::Bin(BinOp::Add, divided, read))
+}
+
 fn found<W: Word>(rt: &impl Abort, s: &State, e: &Expr) -> Result<u32, Trap> {
     assert!(rt; is_sound::<W>(s));
     assert!(rt; is_readable::<W>(e, s));
     value::<W>(e, s)
 }
 
+// Compares the values of a tree in the state above, of 16 bits and of 32.
+fn compare(
+    rt: &impl Abort,
+    e: Result<Expr, NoMemory>,
+    short: Result<u32, Trap>,
+    long: Result<u32, Trap>,
+    alloc: Global,
+) -> Result<(), NoMemory> {
+    let e = e?;
+    let s = state(alloc)?;
+    assert_eq!(rt; found::<W16>(rt, &s, &e), short);
+    assert_eq!(rt; found::<W32>(rt, &s, &e), long);
+    Ok(())
+}
+
 #[test]
 fn leaves_are_read(rt: HostRuntime) -> Result<(), Fail> {
-    let s = state(rt.alloc())?;
-    for (e, want) in [
-        (Expr::Num(7), 7),
-        (Expr::Sym(0), 4),
-        (Expr::Label(Lab::Block(4)), 9),
-        (Expr::Cell(Cell::Hard(1)), 6),
-        (Expr::Cell(Cell::Temp(0)), 3),
-        (Expr::Cell(Cell::Pc), 5),
-    ] {
-        assert_eq!(rt; found::<W16>(&rt, &s, &e), Ok(want));
-        assert_eq!(rt; found::<W32>(&rt, &s, &e), Ok(want));
-    }
-    assert_eq!(rt; found::<W16>(&rt, &s, &Expr::Cell(Cell::Input)), Ok(0xffff));
-    assert_eq!(rt;
-        found::<W32>(&rt, &s, &Expr::Cell(Cell::Input)),
-        Ok(0xffff_ffff)
-    );
+    let a = rt.alloc();
+    compare(&rt, Ok(Expr::Num(7)), Ok(7), Ok(7), a)?;
+    compare(&rt, Ok(Expr::Sym(0)), Ok(4), Ok(4), a)?;
+    compare(&rt, Ok(Expr::Label(Lab::Block(4))), Ok(9), Ok(9), a)?;
+    compare(&rt, Ok(Expr::Cell(Cell::Hard(1))), Ok(6), Ok(6), a)?;
+    compare(&rt, Ok(Expr::Cell(Cell::Temp(0))), Ok(3), Ok(3), a)?;
+    compare(&rt, Ok(Expr::Cell(Cell::Pc)), Ok(5), Ok(5), a)?;
+    compare(&rt, Ok(Expr::Cell(Cell::Input)), Ok(0xffff), Ok(0xffff_ffff), a)?;
     Ok(())
 }
 
 #[test]
 fn memory_is_read_low_byte_first(rt: HostRuntime) -> Result<(), Fail> {
-    let alloc = rt.alloc();
-    let s = state(alloc)?;
-    let word = load(alloc, Width::Full, Expr::Num(4))?;
-    assert_eq!(rt; found::<W16>(&rt, &s, &word), Ok(0x0605));
-    assert_eq!(rt; found::<W32>(&rt, &s, &word), Ok(0xff07_0605));
-    let byte = load(alloc, Width::Byte, Expr::Num(7))?;
-    assert_eq!(rt; found::<W16>(&rt, &s, &byte), Ok(0xff));
-    let odd = load(alloc, Width::Full, Expr::Num(3))?;
-    assert_eq!(rt; found::<W16>(&rt, &s, &odd), Err(Trap::Align));
-    let past = load(alloc, Width::Full, Expr::Num(7))?;
-    assert_eq!(rt; found::<W16>(&rt, &s, &past), Err(Trap::Address));
-    let past = load(alloc, Width::Byte, Expr::Num(8))?;
-    assert_eq!(rt; found::<W32>(&rt, &s, &past), Err(Trap::Address));
+    let a = rt.alloc();
+    let address = Err(Trap::Address);
+    compare(&rt, load(a, Width::Full, 4), Ok(0x0605), Ok(0xff07_0605), a)?;
+    compare(&rt, load(a, Width::Byte, 7), Ok(0xff), Ok(0xff), a)?;
+    compare(&rt, load(a, Width::Full, 3), Err(Trap::Align), Err(Trap::Align), a)?;
+    compare(&rt, load(a, Width::Full, 6), Ok(0xff07), address, a)?;
+    compare(&rt, load(a, Width::Full, 7), address, address, a)?;
+    compare(&rt, load(a, Width::Byte, 8), address, address, a)?;
     Ok(())
 }
 
 #[test]
 fn flags_and_operators_have_values(rt: HostRuntime) -> Result<(), Fail> {
-    let alloc = rt.alloc();
-    let s = state(alloc)?;
-    let held = unary(alloc, UnOp::Test(Rel::Lt), Expr::Cell(Cell::Flag(2)))?;
-    assert_eq!(rt; found::<W16>(&rt, &s, &held), Ok(1));
-    let lost = unary(alloc, UnOp::Test(Rel::Lt), Expr::Cell(Cell::Flag(3)))?;
-    assert_eq!(rt; found::<W16>(&rt, &s, &lost), Err(Trap::LostFlag));
-    let negated = unary(alloc, UnOp::Neg, Expr::Cell(Cell::Hard(1)))?;
-    assert_eq!(rt; found::<W16>(&rt, &s, &negated), Ok(0xfffa));
-    assert_eq!(rt; found::<W32>(&rt, &s, &negated), Ok(0xffff_fffa));
-    let shifted = binary(alloc, BinOp::Shl, Expr::Num(1), Expr::Num(16))?;
-    assert_eq!(rt; found::<W16>(&rt, &s, &shifted), Err(Trap::Shift));
-    assert_eq!(rt; found::<W32>(&rt, &s, &shifted), Ok(65536));
+    let a = rt.alloc();
+    let lost = Err(Trap::LostFlag);
+    compare(&rt, test_of(a, 2), Ok(1), Ok(1), a)?;
+    compare(&rt, test_of(a, 3), lost, lost, a)?;
+    compare(&rt, binary(a, BinOp::Sub, 1, 3), Ok(0xfffe), Ok(0xffff_fffe), a)?;
+    compare(&rt, binary(a, BinOp::Shl, 1, 16), Err(Trap::Shift), Ok(65536), a)?;
     assert_eq!(rt; apply_binary::<W16>(BinOp::Divu, 7, 0), Err(Trap::Divide));
     Ok(())
 }
@@ -131,11 +133,7 @@ fn flags_and_operators_have_values(rt: HostRuntime) -> Result<(), Fail> {
 /// The trap of the left operand counts.
 #[test]
 fn the_first_trap_counts(rt: HostRuntime) -> Result<(), Fail> {
-    let alloc = rt.alloc();
-    let s = state(alloc)?;
-    let divided = binary(alloc, BinOp::Div, Expr::Num(1), Expr::Num(0))?;
-    let read = load(alloc, Width::Byte, Expr::Num(100))?;
-    let sum = binary(alloc, BinOp::Add, divided, read)?;
-    assert_eq!(rt; found::<W16>(&rt, &s, &sum), Err(Trap::Divide));
+    let a = rt.alloc();
+    compare(&rt, division_and_read(a), Err(Trap::Divide), Err(Trap::Divide), a)?;
     Ok(())
 }

@@ -1,4 +1,4 @@
-use Rattle.std.proofs.Common.{rules, ◌≡◌, ◌<◌, ◌^◌, sym, subst, Option, Some}
+use Rattle.std.proofs.Common.{rules, ◌≡◌, ◌<◌, ◌^◌, sym, subst, Some}
 use Rattle.rtl_value.specs.Values.{place_of_label, number_or_zero}
 use Rattle.rtl_value.proofs.Places.{label_below}
 use Rattle.rtl_value.proofs.evaluation.label.Goals as goal

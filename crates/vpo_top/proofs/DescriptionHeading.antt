@@ -29,8 +29,9 @@ register_inner line a name n e h = append_cancel_left (codes "reg ") a (((decima
 
 pub register_split : (line a t name : List ℕ) (n : ℕ) → line ≡ codes "reg " ++ a → a ≡ t ++ codes " result" → IsRegisterLine line n name → IsSplitAtByte 32 t (decimal n) name
 register_split line a t name n e f h = record {
-    text = append_cancel_right t ((decimal n ++ 32 ∷ []) ++ name) (codes " result") (sym f ∙ register_inner line a name n e h) ∙ append_assoc (decimal n) (32 ∷ []) name;
-    first = decimal_lacks 32 n (omega (arith, h.below)) refl }
+  text = append_cancel_right t ((decimal n ++ 32 ∷ []) ++ name) (codes " result") (sym f ∙ register_inner line a name n e h) ∙ append_assoc (decimal n) (32 ∷ []) name;
+  first = decimal_lacks 32 n (omega (arith, h.below)) refl;
+}
 
 pub register_same : (line name other : List ℕ) (n m : ℕ) → IsRegisterLine line n name → IsRegisterLine line m other → (decimal n ≡ decimal m) × (name ≡ other)
 register_same line name other n m p q =
@@ -65,15 +66,31 @@ numbers_small f h =
 
 pub numbers_16 : (f : FirstForm) → f.word ≡ 16 → f.register < 64 → AreSizes f 65534 → AreNumbers f
 numbers_16 f e r h = record {
-    word = inl e; memory_words = h.memory_words; memory_least = h.memory_least;
-    memory_most = rw e h.memory_most;
-    data_words = h.data_words; stack_words = h.stack_words; stack_least = h.stack_least; stack_most = h.stack_most; room = h.room; register = r }
+  word = inl e;
+  memory_words = h.memory_words;
+  memory_least = h.memory_least;
+  memory_most = rw e h.memory_most;
+  data_words = h.data_words;
+  stack_words = h.stack_words;
+  stack_least = h.stack_least;
+  stack_most = h.stack_most;
+  room = h.room;
+  register = r;
+}
 
 pub numbers_32 : (f : FirstForm) → f.word ≡ 32 → f.register < 64 → AreSizes f 16777216 → AreNumbers f
 numbers_32 f e r h = record {
-    word = inr e; memory_words = h.memory_words; memory_least = h.memory_least;
-    memory_most = rw e h.memory_most;
-    data_words = h.data_words; stack_words = h.stack_words; stack_least = h.stack_least; stack_most = h.stack_most; room = h.room; register = r }
+  word = inr e;
+  memory_words = h.memory_words;
+  memory_least = h.memory_least;
+  memory_most = rw e h.memory_most;
+  data_words = h.data_words;
+  stack_words = h.stack_words;
+  stack_least = h.stack_least;
+  stack_most = h.stack_most;
+  room = h.room;
+  register = r;
+}
 
 at_16 : (memory : ℕ) (r : Bool) → r ≡ true → memory ≤ cond r 65534 16777216 → memory ≤ 65534
 at_16 memory true q l = l
@@ -81,15 +98,27 @@ at_16 memory false q l = let no : false ≡ true → ⊥ = λ e. cc in absurd (n
 
 pub sizes_16 : (f : FirstForm) → f.word ≡ 16 → AreNumbers f → AreSizes f 65534
 sizes_16 f e h = record {
-    memory_words = h.memory_words; data_words = h.data_words; stack_words = h.stack_words; memory_least = h.memory_least;
-    memory_most = at_16 f.memory (eqb f.word 16) (ap (λ w. eqb w 16) e) h.memory_most;
-    stack_least = h.stack_least; stack_most = h.stack_most; room = h.room }
+  memory_words = h.memory_words;
+  data_words = h.data_words;
+  stack_words = h.stack_words;
+  memory_least = h.memory_least;
+  memory_most = at_16 f.memory (eqb f.word 16) (ap (λ w. eqb w 16) e) h.memory_most;
+  stack_least = h.stack_least;
+  stack_most = h.stack_most;
+  room = h.room;
+}
 
 pub sizes_32 : (f : FirstForm) → f.word ≡ 32 → AreNumbers f → AreSizes f 16777216
 sizes_32 f e h = record {
-    memory_words = h.memory_words; data_words = h.data_words; stack_words = h.stack_words; memory_least = h.memory_least;
-    memory_most = omega (arith, h.memory_most, most_is (eqb f.word 16));
-    stack_least = h.stack_least; stack_most = h.stack_most; room = h.room }
+  memory_words = h.memory_words;
+  data_words = h.data_words;
+  stack_words = h.stack_words;
+  memory_least = h.memory_least;
+  memory_most = omega (arith, h.memory_most, most_is (eqb f.word 16));
+  stack_least = h.stack_least;
+  stack_most = h.stack_most;
+  room = h.room;
+}
 
 -- a number at the end of a line
 
@@ -105,24 +134,52 @@ if_none (Some a) f h = tt
 
 numbers_form : ℕ → ℕ → ℕ → ℕ → ℕ → FirstForm
 numbers_form w m d s r = record {
-    name = []; word = w; memory = m; data_begin = d; stack = s; register = r; register_name = [];
-    before_hole = []; after_hole = []; put = []; «end» = [] }
+  name = [];
+  word = w;
+  memory = m;
+  data_begin = d;
+  stack = s;
+  register = r;
+  register_name = [];
+  before_hole = [];
+  after_hole = [];
+  put = [];
+  «end» = [];
+}
 
 same_numbers : (f g : FirstForm) → f.word ≡ g.word → f.memory ≡ g.memory → f.data_begin ≡ g.data_begin → f.stack ≡ g.stack → f.register ≡ g.register → AreNumbers f → AreNumbers g
 unfolding numbers_form
 same_numbers f g e m d s r h =
     let first : AreNumbers (numbers_form f.word f.memory f.data_begin f.stack f.register) = record {
-      word = h.word; memory_words = h.memory_words; memory_least = h.memory_least; memory_most = h.memory_most; data_words = h.data_words;
-      stack_words = h.stack_words; stack_least = h.stack_least; stack_most = h.stack_most; room = h.room; register = h.register } in
+      word = h.word;
+      memory_words = h.memory_words;
+      memory_least = h.memory_least;
+      memory_most = h.memory_most;
+      data_words = h.data_words;
+      stack_words = h.stack_words;
+      stack_least = h.stack_least;
+      stack_most = h.stack_most;
+      room = h.room;
+      register = h.register;
+    } in
     let k : AreNumbers (numbers_form g.word g.memory g.data_begin g.stack g.register) = subst AreNumbers (λ i. numbers_form (e i) (m i) (d i) (s i) (r i)) first in
     record {
-      word = k.word; memory_words = k.memory_words; memory_least = k.memory_least; memory_most = k.memory_most; data_words = k.data_words;
-      stack_words = k.stack_words; stack_least = k.stack_least; stack_most = k.stack_most; room = k.room; register = k.register }
+      word = k.word;
+      memory_words = k.memory_words;
+      memory_least = k.memory_least;
+      memory_most = k.memory_most;
+      data_words = k.data_words;
+      stack_words = k.stack_words;
+      stack_least = k.stack_least;
+      stack_most = k.stack_most;
+      room = k.room;
+      register = k.register;
+    }
 
 word_same : (ls : List (List ℕ)) (at : ℕ) (word : List ℕ) (n m : ℕ) → slice_get ls at ≡ Some (word ++ decimal n) → slice_get ls at ≡ Some (word ++ decimal m) → n < 2 ^ 32 → m < 2 ^ 32 → n ≡ m
 word_same ls at word n m p q l k =
     decimal_injective n m (omega (arith, l)) (omega (arith, k))
-      (append_cancel_left word (decimal n) (decimal m) (some_same (word ++ decimal n) (word ++ decimal m) (slice_get ls at) p q))
+    (append_cancel_left word (decimal n) (decimal m) (some_same (word ++ decimal n) (word ++ decimal m) (slice_get ls at) p q))
 
 -- the lines of the numbers and of the register are those of this form
 pub record HasNumberLines (ls : List (List ℕ)) (f : FirstForm) : Type 0 where
@@ -144,10 +201,10 @@ pub numbers_from_lines : (ls : List (List ℕ)) (g f : FirstForm) → HasNumberL
 numbers_from_lines ls g f p q =
     let small = numbers_small f q.numbers in
     same_numbers f g
-      (word_same ls 2 (codes "word ") f.word g.word q.word p.word small.word p.small.word)
-      (word_same ls 3 (codes "memory ") f.memory g.memory q.memory p.memory small.memory p.small.memory)
-      (word_same ls 4 (codes "data ") f.data_begin g.data_begin q.data_begin p.data_begin small.data_begin p.small.data_begin)
-      (word_same ls 5 (codes "stack ") f.stack g.stack q.stack p.stack small.stack p.small.stack)
-      (register_line_number q.register_line p.register_line f.register_name g.register_name f.register g.register
-        (some_same q.register_line p.register_line (slice_get ls 6) q.register p.register) q.register_parts p.register_parts)
-      q.numbers
+    (word_same ls 2 (codes "word ") f.word g.word q.word p.word small.word p.small.word)
+    (word_same ls 3 (codes "memory ") f.memory g.memory q.memory p.memory small.memory p.small.memory)
+    (word_same ls 4 (codes "data ") f.data_begin g.data_begin q.data_begin p.data_begin small.data_begin p.small.data_begin)
+    (word_same ls 5 (codes "stack ") f.stack g.stack q.stack p.stack small.stack p.small.stack)
+    (register_line_number q.register_line p.register_line f.register_name g.register_name f.register g.register
+    (some_same q.register_line p.register_line (slice_get ls 6) q.register p.register) q.register_parts p.register_parts)
+    q.numbers

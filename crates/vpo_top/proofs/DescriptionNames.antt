@@ -27,17 +27,23 @@ text_begins bytes ps ts w h e b = same_begin ps (map piece_of ts) w (h.same ∙ 
 hole_begins : (front back : List ℕ) (ps : List Piece) (ts : List Token) (w : List ℕ) (h : SpellsRoundHole front back ps) → h.before ≡ ts → BeginsWith ts w → BeginWithName ps w
 hole_begins front back ps ts w h e b =
     same_begin ps (map piece_of ts ++ HolePiece 0 ∷ map piece_of h.after) w
-      (h.same ∙ ap (λ us. map piece_of us ++ HolePiece 0 ∷ map piece_of h.after) e)
-      (tokens_begin ts w b (HolePiece 0 ∷ map piece_of h.after))
+    (h.same ∙ ap (λ us. map piece_of us ++ HolePiece 0 ∷ map piece_of h.after) e)
+    (tokens_begin ts w b (HolePiece 0 ∷ map piece_of h.after))
 
 pub begin_as_spelled : (t : RowTexts) (set put last : List Piece) (f : FirstForm) → SpellsRoundHole t.before_hole t.after_hole set → SpellsPieces t.put put → SpellsPieces t.«end» last → SpellsTexts t f → BeginDifferently set put last
 begin_as_spelled t set put last f h p q s = record {
-    set_name = s.names.set_name; put_name = s.names.put_name; end_name = s.names.end_name;
-    begin = record {
-      set_begins = hole_begins t.before_hole t.after_hole set f.before_hole s.names.set_name h (literals_once t.before_hole h.before f.before_hole h.before_spelled s.before_hole) s.names.set_begins;
-      put_begins = text_begins t.put put f.put s.names.put_name p (literals_once t.put p.tokens f.put p.spelled s.put) s.names.put_begins;
-      end_begins = text_begins t.«end» last f.«end» s.names.end_name q (literals_once t.«end» q.tokens f.«end» q.spelled s.«end») s.names.end_begins };
-    set_put = s.names.set_put; set_end = s.names.set_end; put_end = s.names.put_end }
+  set_name = s.names.set_name;
+  put_name = s.names.put_name;
+  end_name = s.names.end_name;
+  begin = record {
+    set_begins = hole_begins t.before_hole t.after_hole set f.before_hole s.names.set_name h (literals_once t.before_hole h.before f.before_hole h.before_spelled s.before_hole) s.names.set_begins;
+    put_begins = text_begins t.put put f.put s.names.put_name p (literals_once t.put p.tokens f.put p.spelled s.put) s.names.put_begins;
+    end_begins = text_begins t.«end» last f.«end» s.names.end_name q (literals_once t.«end» q.tokens f.«end» q.spelled s.«end») s.names.end_begins;
+  };
+  set_put = s.names.set_put;
+  set_end = s.names.set_end;
+  put_end = s.names.put_end;
+}
 
 -- from pieces to tokens
 
@@ -64,8 +70,13 @@ names_of_pieces t set put last f h a b c =
     let names = h.different in
     let P : (w : List ℕ) → List Token → Type 0 = λ w ts. BeginsWith ts w in
     record {
-      set_name = names.set_name; put_name = names.put_name; end_name = names.end_name;
+      set_name = names.set_name;
+      put_name = names.put_name;
+      end_name = names.end_name;
       set_begins = subst (P names.set_name) (sym a) (token_begins h.set_pieces.before (map piece_of h.set_pieces.after) names.begin.set_begins.0 names.set_name (sym h.set_pieces.same ∙ names.begin.set_begins.1));
       put_begins = subst (P names.put_name) (sym b) (plain_token_begins h.put_pieces.tokens names.begin.put_begins.0 names.put_name (sym h.put_pieces.same ∙ names.begin.put_begins.1));
       end_begins = subst (P names.end_name) (sym c) (plain_token_begins h.end_pieces.tokens names.begin.end_begins.0 names.end_name (sym h.end_pieces.same ∙ names.begin.end_begins.1));
-      set_put = names.set_put; set_end = names.set_end; put_end = names.put_end }
+      set_put = names.set_put;
+      set_end = names.set_end;
+      put_end = names.put_end;
+    }

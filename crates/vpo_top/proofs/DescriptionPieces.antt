@@ -28,19 +28,25 @@ pub record ReadSoFar (bytes rest : List ℕ) (pieces : List Piece) : Type 0 wher
 
 pub none_read : (bytes : List ℕ) → ReadSoFar bytes bytes []
 none_read bytes = record {
-    tokens = []; same = refl; literal = refl;
-    onward = λ us h. h;
-    back = λ vs h. record { others = vs; is = refl; spelled = h } }
+  tokens = [];
+  same = refl;
+  literal = refl;
+  onward = λ us h. h;
+  back = λ vs h. record { others = vs; is = refl; spelled = h };
+}
 
 pub blank_read : (bytes rest more : List ℕ) (b : ℕ) (pieces : List Piece) → rest ≡ b ∷ more → is_blank b ≡ true → ReadSoFar bytes rest pieces → ReadSoFar bytes more pieces
 blank_read bytes rest more b pieces e g r = record {
-    tokens = r.tokens; same = r.same; literal = r.literal;
-    onward = λ us h.
+  tokens = r.tokens;
+  same = r.same;
+  literal = r.literal;
+  onward = λ us h.
       let P : List ℕ → Type 0 = λ bs. Spells is_blank bs us in
       r.onward us (subst P (sym e) (after_gap b more us g h));
-    back = λ vs h.
+  back = λ vs h.
       let f = r.back vs h in
-      record { others = f.others; is = f.is; spelled = past_gap is_blank b more rest f.others blank_is_gap g f.spelled e } }
+      record { others = f.others; is = f.is; spelled = past_gap is_blank b more rest f.others blank_is_gap g f.spelled e };
+}
 
 more_literal : (ts : List Token) (t : Token) → list_all is_literal ts ≡ true → is_literal t ≡ true → list_all is_literal (ts ++ t ∷ []) ≡ true
 more_literal ts t p q = list_all-append is_literal ts (t ∷ []) ∙ rw p (rw q refl)
@@ -50,32 +56,36 @@ more_same pieces p ts t e f = rw e (rw f (sym (map-append piece_of ts (t ∷ [])
 
 pub token_read : (bytes rest : List ℕ) (t : Token) (n : ℕ) (pieces : List Piece) (p : Piece) → LongestToken rest t n → is_literal t ≡ true → p ≡ piece_of t → ReadSoFar bytes rest pieces → ReadSoFar bytes (drop n rest) (pieces ++ p ∷ [])
 token_read bytes rest t n pieces p h l q r = record {
-    tokens = r.tokens ++ t ∷ [];
-    same = more_same pieces p r.tokens t r.same q;
-    literal = more_literal r.tokens t r.literal l;
-    onward = λ us s.
+  tokens = r.tokens ++ t ∷ [];
+  same = more_same pieces p r.tokens t r.same q;
+  literal = more_literal r.tokens t r.literal l;
+  onward = λ us s.
       let P : List ℕ → Type 0 = λ bs. Spells is_blank bs (t ∷ us) in
       let Q : List Token → Type 0 = λ vs. Spells is_blank bytes vs in
       subst Q (sym (append_assoc r.tokens (t ∷ []) us))
-        (r.onward (t ∷ us) (subst P (sym h.spelled) (one_token t (drop n rest) us h.is_token h.longest s)));
-    back = λ vs s.
+      (r.onward (t ∷ us) (subst P (sym h.spelled) (one_token t (drop n rest) us h.is_token h.longest s)));
+  back = λ vs s.
       let f = r.back vs s in
       let next = past_token is_blank rest t n f.others blank_is_gap h f.spelled in
       record {
         others = next.others;
         is = f.is ∙ ap (λ us. r.tokens ++ us) next.is ∙ sym (append_assoc r.tokens (t ∷ []) next.others);
-        spelled = next.spelled } }
+        spelled = next.spelled;
+      };
+}
 
 pub all_read : (bytes rest : List ℕ) (pieces : List Piece) → rest ≡ [] → ReadSoFar bytes rest pieces → SpellsPieces bytes pieces
 all_read bytes rest pieces e r = record {
-    tokens = r.tokens;
-    spelled = record {
-      spells =
+  tokens = r.tokens;
+  spelled = record {
+    spells =
         (let P : List ℕ → Type 0 = λ bs. Spells is_blank bs [] in
         let Q : List Token → Type 0 = λ vs. Spells is_blank bytes vs in
         subst Q (append-nil r.tokens) (r.onward [] (subst P (sym e) at_end)));
-      literal = r.literal };
-    same = r.same }
+    literal = r.literal;
+  };
+  same = r.same;
+}
 
 -- where nothing more is read
 

@@ -33,8 +33,9 @@ row_once line x y goal digits ending p q =
 
 pub hole_text : (t front rest back : List ℕ) → IsSplitAtByte 60 t front rest → rest ≡ codes "n:word>" ++ back → IsRoundHole t front back
 hole_text t front rest back h e = record {
-    text = h.text ∙ ap (λ r. front ++ 60 ∷ r) e ∙ sym (append_assoc front (codes "<n:word>") back);
-    first = h.first }
+  text = h.text ∙ ap (λ r. front ++ 60 ∷ r) e ∙ sym (append_assoc front (codes "<n:word>") back);
+  first = h.first;
+}
 
 pub hole_split : (t front back : List ℕ) → IsRoundHole t front back → IsSplitAtByte 60 t front (codes "n:word>" ++ back)
 hole_split t front back h = record { text = h.text ∙ append_assoc front (codes "<n:word>") back; first = h.first }
@@ -63,9 +64,9 @@ pub row_lines_once : (lines : List (List ℕ)) (digits : List ℕ) (t u : RowTex
 row_lines_once lines digits t u p q =
     let set : p.set_text ≡ q.set_text = row_at [] p.set_line q.set_line (codes " | r[") digits (codes "] = <n>") p.set_text q.set_text (some_same p.set_line q.set_line (slice_get lines 7) p.set_at q.set_at) p.set_is q.set_is in
     same_texts t u
-      (hole_at p.set_text q.set_text t.before_hole t.after_hole u.before_hole u.after_hole set p.hole q.hole)
-      (row_at [] p.put_line q.put_line (codes " | OUT = r[") digits (codes "]") t.put u.put (some_same p.put_line q.put_line (slice_get lines 8) p.put_at q.put_at) p.put_is q.put_is)
-      (row_at [] p.end_line q.end_line (codes " | HALT = r[") digits (codes "]") t.«end» u.«end» (some_same p.end_line q.end_line (slice_get lines 9) p.end_at q.end_at) p.end_is q.end_is)
+    (hole_at p.set_text q.set_text t.before_hole t.after_hole u.before_hole u.after_hole set p.hole q.hole)
+    (row_at [] p.put_line q.put_line (codes " | OUT = r[") digits (codes "]") t.put u.put (some_same p.put_line q.put_line (slice_get lines 8) p.put_at q.put_at) p.put_is q.put_is)
+    (row_at [] p.end_line q.end_line (codes " | HALT = r[") digits (codes "]") t.«end» u.«end» (some_same p.end_line q.end_line (slice_get lines 9) p.end_at q.end_at) p.end_is q.end_is)
 
 pub row_line_at : (lines : List (List ℕ)) (at : ℕ) (l m goal digits ending x : List ℕ) → slice_get lines at ≡ Some l → slice_get lines at ≡ Some m → IsRowLine m goal digits ending x → IsRowLine l goal digits ending x
 row_line_at lines at l m goal digits ending x e f h =

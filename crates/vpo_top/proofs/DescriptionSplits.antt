@@ -54,12 +54,13 @@ split_found b t n e =
     let at = position-Some (λ c. eqb c b) t n 0 e in
     let here : get_or t n 0 ≡ b = eqb-true (get_or t n 0) b at.1 in
     let free : AllPass (λ c. not (eqb c b)) (take n t) = λ k d l.
-        let below : k < n = omega (arith, l, length-take n t) in
-        let inside : k < length t = omega (arith, below, at.0) in
-        rw (get_or-take n t k d below) (rw (get_or_default t k d 0 inside) (other_passes (eqb (get_or t k 0) b) (at.2 k below))) in
+    let below : k < n = omega (arith, l, length-take n t) in
+    let inside : k < length t = omega (arith, below, at.0) in
+    rw (get_or-take n t k d below) (rw (get_or_default t k d 0 inside) (other_passes (eqb (get_or t k 0) b) (at.2 k below))) in
     record {
       text = sym (take-append-drop n t) ∙ ap (λ r. take n t ++ r) (drop-cons t n 0 at.0 ∙ ap (λ x. x ∷ drop (suc n) t) here);
-      first = list_all-from_AllPass (λ c. not (eqb c b)) (take n t) free }
+      first = list_all-from_AllPass (λ c. not (eqb c b)) (take n t) free;
+    }
 
 -- what a slice from n + 1 on has
 rest_from : (n : ℕ) (t : List ℕ) → take (length t - (n + 1)) (drop (n + 1) t) ≡ drop (suc n) t

@@ -26,8 +26,9 @@ more_text bytes rest line after done e f =
 
 pub taken_more : (bytes : List ℕ) (done : List (List ℕ)) (rest line after : List ℕ) → TakenLines bytes done rest → IsFirstLine rest line after → TakenLines bytes (done ++ line ∷ []) after
 taken_more bytes done rest line after taken first = record {
-    text = more_text bytes rest line after done taken.text first.text;
-    each = All-push IsLine done line taken.each first.alone }
+  text = more_text bytes rest line after done taken.text first.text;
+  each = All-push IsLine done line taken.each first.alone;
+}
 
 pub taken_at : (bytes : List ℕ) (xs : List (Bor (List ℕ))) (i : ℕ) (v : Bor (List ℕ)) (rest after : List ℕ) → i < length xs → TakenLines bytes (map (λ x. x.now) (take i xs)) rest → IsFirstLine rest v.now after → TakenLines bytes (map (λ x. x.now) (take (i + 1) (slice_set xs i v))) after
 taken_at bytes xs i v rest after l taken first =
@@ -45,13 +46,15 @@ pub record Next (rest : List ℕ) : Type 0 where
 lines_apart : (d l : List ℕ) (ds ls : List (List ℕ)) (rest : List ℕ) → IsLine d → IsLine l → text_of (l ∷ ls) ≡ text_of (d ∷ ds) ++ rest → (l ≡ d) × (text_of ls ≡ text_of ds ++ rest)
 lines_apart d l ds ls rest p q e =
     same_front 10 l d (text_of ls) (text_of ds ++ rest) q.whole p.whole
-      (sym (line_first l (text_of ls)) ∙ e ∙ append_assoc (d ++ 10 ∷ []) (text_of ds) rest ∙ line_first d (text_of ds ++ rest))
+    (sym (line_first l (text_of ls)) ∙ e ∙ append_assoc (d ++ 10 ∷ []) (text_of ds) rest ∙ line_first d (text_of ds ++ rest))
 
 next_line : (done lines : List (List ℕ)) (rest : List ℕ) → All IsLine done → All IsLine lines → text_of lines ≡ text_of done ++ rest → length done < length lines → Next rest
 next_line [] [] rest p q e l = absurd (omega arith)
 next_line [] (line ∷ lines) rest p q e l = record {
-    line = line; after = text_of lines;
-    is = record { text = sym e ∙ line_first line (text_of lines); alone = All-head IsLine line lines q } }
+  line = line;
+  after = text_of lines;
+  is = record { text = sym e ∙ line_first line (text_of lines); alone = All-head IsLine line lines q };
+}
 next_line (d ∷ ds) [] rest p q e l = absurd (omega arith)
 next_line (d ∷ ds) (line ∷ lines) rest p q e l =
     let apart = lines_apart d line ds lines rest (All-head IsLine d ds p) (All-head IsLine line lines q) e in
@@ -82,8 +85,10 @@ too_long bytes done rest taken l some lines ten =
 
 pub all_taken : (bytes : List ℕ) (done : List (List ℕ)) (rest : List ℕ) → TakenLines bytes done rest → length done ≡ 10 → rest ≡ [] → AreTenLines bytes done
 all_taken bytes done rest taken l e = record {
-    text = taken.text ∙ ap (λ r. text_of done ++ r) e ∙ append-nil (text_of done);
-    each = taken.each; count = l }
+  text = taken.text ∙ ap (λ r. text_of done ++ r) e ∙ append-nil (text_of done);
+  each = taken.each;
+  count = l;
+}
 
 -- a text has these ten lines at most once
 pub ten_lines_once : (bytes : List ℕ) (xs ys : List (List ℕ)) → AreTenLines bytes xs → AreTenLines bytes ys → ys ≡ xs

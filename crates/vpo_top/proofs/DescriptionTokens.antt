@@ -27,8 +27,10 @@ fails_other p b c f t = other (eqb c b) (λ e. clash (sym t ∙ ap p (eq e) ∙ 
   where
     eq : eqb c b ≡ true → c ≡ b
     eq e = grind (arith, rules)
+
     clash : true ≡ false → ⊥
     clash q = cc
+
     other : (r : Bool) → (r ≡ true → ⊥) → not r ≡ true
     other true n = absurd (n refl)
     other false n = refl
@@ -71,7 +73,7 @@ token_passes : (t : Token) → IsToken t → list_all is_token_byte (spelling t)
 token_passes (Name []) h = absurd h
 token_passes (Name (b ∷ bs)) h =
     and_true (is_token_byte b) (list_all is_token_byte bs) (name_byte b (or_left (is_name_start b) (is_ascii_digit b) h.0))
-      (passes_weaker is_name_byte is_token_byte name_byte bs (list_all-from_AllPass is_name_byte bs h.1))
+    (passes_weaker is_name_byte is_token_byte name_byte bs (list_all-from_AllPass is_name_byte bs h.1))
 token_passes (Number (pos n)) h = decimal_passes n (omega (arith, h))
 token_passes (Number (negsuc n)) h = decimal_passes (suc n) (omega (arith, h))
 token_passes (Mark b) h = and_true (is_token_byte b) true (or_right (is_name_byte b) (is_mark b || eqb b 45) (or_left (is_mark b) (eqb b 45) h)) refl
@@ -93,8 +95,9 @@ nothing_more n bs l = drop_all n bs l
 
 pub whole_is : (bs : List ℕ) (t : Token) (n : ℕ) → LongestToken bs t n → n ≡ length bs → IsSpelledToken bs t
 whole_is bs t n h e = record {
-    token = h.is_token;
-    text = h.spelled ∙ ap (λ r. spelling t ++ r) (nothing_more n bs (omega (arith, e))) ∙ append-nil (spelling t) }
+  token = h.is_token;
+  text = h.spelled ∙ ap (λ r. spelling t ++ r) (nothing_more n bs (omega (arith, e))) ∙ append-nil (spelling t);
+}
 
 pub part_is_not : (bs : List ℕ) (t : Token) (n : ℕ) → LongestToken bs t n → (n ≡ length bs → ⊥) → (u : Token) → IsSpelledToken bs u → ⊥
 part_is_not bs t n h d u s =

@@ -63,9 +63,18 @@ pub record SpellsHeading (lines : List (List ℕ)) (f : FirstForm) : Type 0 wher
 -- the form of a heading, and of rows that have no tokens
 abbrev pub heading_form : Heading → FirstForm
 heading_form h = record {
-  name = h.name.now; word = h.word; memory = h.memory; data_begin = h.base; stack = h.stack;
-  register = h.register; register_name = h.register_name.now;
-  before_hole = []; after_hole = []; put = []; «end» = [] }
+  name = h.name.now;
+  word = h.word;
+  memory = h.memory;
+  data_begin = h.base;
+  stack = h.stack;
+  register = h.register;
+  register_name = h.register_name.now;
+  before_hole = [];
+  after_hole = [];
+  put = [];
+  «end» = [];
+}
 
 -- the line of a row whose text is x, where its transfer is written with these digits
 pub record IsRowLine (bytes goal digits ending x : List ℕ) : Type 0 where
@@ -154,6 +163,13 @@ rows_with h set put end_ =
 -- the description with this heading and rows with these pieces
 abbrev pub described : Heading → List Piece → List Piece → List Piece → RawDescription
 described h set put end_ = record {
-  name = h.name.now; word = h.word; memory = h.memory; base = h.base; stack = h.stack;
+  name = h.name.now;
+  word = h.word;
+  memory = h.memory;
+  base = h.base;
+  stack = h.stack;
   registers = record { number = h.register; name = h.register_name.now; role = Result } ∷ [];
-  flags = []; rows = rows_with h set put end_; last = 10 }
+  flags = [];
+  rows = rows_with h set put end_;
+  last = 10;
+}

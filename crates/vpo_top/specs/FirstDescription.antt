@@ -154,11 +154,11 @@ description_of f = record {
   registers = record { number = f.register; name = f.register_name; role = Result } ∷ [];
   flags = [];
   rows =
-    row_of 8 (map piece_of f.before_hole ++ HolePiece 0 ∷ map piece_of f.after_hole) (word_hole f.word ∷ [])
+      row_of 8 (map piece_of f.before_hole ++ HolePiece 0 ∷ map piece_of f.after_hole) (word_hole f.word ∷ [])
       (record { to = ToCell (Hard f.register); value = AnyNumber 0 })
-    ∷ row_of 9 (map piece_of f.put) [] (record { to = ToCell Output; value = Read (Hard f.register) })
-    ∷ row_of 10 (map piece_of f.«end») [] (record { to = ToCell Halt; value = Read (Hard f.register) })
-    ∷ [];
+      ∷ row_of 9 (map piece_of f.put) [] (record { to = ToCell Output; value = Read (Hard f.register) })
+      ∷ row_of 10 (map piece_of f.«end») [] (record { to = ToCell Halt; value = Read (Hard f.register) })
+      ∷ [];
   last = 10;
 }
 

@@ -13,6 +13,7 @@ mod machine;
 mod pieces;
 mod rows;
 
+pub use fault::DescriptionFault;
 use heading::read_heading;
 use lines::ten_lines;
 use machine::describe;
@@ -20,8 +21,6 @@ use md_rows::RawDescription;
 use pieces::read_pieces;
 use rows::row_texts;
 use std::alloc::Global;
-
-pub use fault::DescriptionFault;
 
 /// The description that the text is, if it is one of ten lines: a heading of seven, a row that sets the result register to a number,
 /// one that prints it and one that ends with it. Nothing of the text is copied but the names.

@@ -29,7 +29,11 @@ fn whole_token(text: &[u8]) -> Option<Token<'_>>
     ensures none { IfNone result ((t : Spelled) → IsSpelledToken text.now t → ⊥) }
 {
     let (token, length) = token_at(text)?;
-    if length == text.len() { Some(token) } else { None }
+    if length == text.len() {
+        Some(token)
+    } else {
+        None
+    }
 }
 
 /// Whether the text is a name.

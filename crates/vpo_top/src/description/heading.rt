@@ -66,7 +66,11 @@ fn machine_name<'a>(lines: &Lines<'a>) -> Option<&'a [u8]>
 fn is_register_name(name: &[u8]) -> bool
     ensures { IsTrue result ↔ IsRegisterName name.now }
 {
-    if is_name(name) { !is_reserved(name) } else { false }
+    if is_name(name) {
+        !is_reserved(name)
+    } else {
+        false
+    }
 }
 
 fn register_of(line: &[u8]) -> Option<ResultRegister<'_>>
@@ -146,5 +150,9 @@ pub fn read_heading<'a>(lines: &Lines<'a>) -> Option<Heading<'a>>
         register_name: register.name,
         digits: register.digits,
     };
-    if are_numbers(&heading) { Some(heading) } else { None }
+    if are_numbers(&heading) {
+        Some(heading)
+    } else {
+        None
+    }
 }

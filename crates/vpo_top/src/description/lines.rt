@@ -55,5 +55,9 @@ pub fn ten_lines(text: &[u8]) -> Option<Lines<'_>>
         lines[index] = line;
         rest = after;
     }
-    if rest.is_empty() { Some(Lines { all: lines }) } else { None }
+    if rest.is_empty() {
+        Some(Lines { all: lines })
+    } else {
+        None
+    }
 }

@@ -19,7 +19,10 @@ fn assignment(alloc: Global, to: Cell, value: Expr) -> Result<Effects, AllocErro
     ensures { IfOk result (λ e. e ≡ record { to = ToCell to; value = tree_of value } ∷ []) }
 {
     let mut list = SmallVec::new(alloc);
-    list.push(Assign { to: Place::Cell(to), value })?;
+    list.push(Assign {
+        to: Place::Cell(to),
+        value,
+    })?;
     Ok(Effects { list })
 }
 
@@ -28,8 +31,16 @@ fn word_hole(word: u32) -> Hole
     requires { (word ≡ 16) ⊎ (word ≡ 32) }
     ensures { result ≡ word_hole word }
 {
-    let (low, high) = if word == 16 { (-0x8000, 0x7fff) } else { (-0x8000_0000, 0x7fff_ffff) };
-    Hole::Num { low, high, inverted: false }
+    let (low, high) = if word == 16 {
+        (-0x8000, 0x7fff)
+    } else {
+        (-0x8000_0000, 0x7fff_ffff)
+    };
+    Hole::Num {
+        low,
+        high,
+        inverted: false,
+    }
 }
 
 /// The row that sets the register to a number.
@@ -42,16 +53,34 @@ fn set_row(alloc: Global, heading: &Heading<'_>, text: Items<Piece>) -> Result<R
     holes.push(word_hole(heading.word))?;
     let effects = assignment(alloc, register, Expr::NumHole(0))?;
     let normal = assignment(alloc, register, Expr::NumHole(0))?;
-    Ok(Row { line: 8, text, holes, effects, normal })
+    Ok(Row {
+        line: 8,
+        text,
+        holes,
+        effects,
+        normal,
+    })
 }
 
 /// The row that sends the register to the output or ends with it.
-fn value_row(alloc: Global, line: u32, text: Items<Piece>, to: Cell, register: u8) -> Result<Row, AllocError>
+fn value_row(
+    alloc: Global,
+    line: u32,
+    text: Items<Piece>,
+    to: Cell,
+    register: u8,
+) -> Result<Row, AllocError>
     ensures { IfOk result (λ r. r ≡ row_of line text [] (record { to = ToCell to; value = Read (Cell.Hard register) })) }
 {
     let effects = assignment(alloc, to, Expr::Cell(Cell::Hard(register)))?;
     let normal = assignment(alloc, to, Expr::Cell(Cell::Hard(register)))?;
-    Ok(Row { line, text, holes: Items::new(alloc), effects, normal })
+    Ok(Row {
+        line,
+        text,
+        holes: Items::new(alloc),
+        effects,
+        normal,
+    })
 }
 
 fn rows(alloc: Global, heading: &Heading<'_>, pieces: RowPieces) -> Result<Items<Row>, AllocError>
@@ -71,12 +100,20 @@ fn registers(alloc: Global, heading: &Heading<'_>) -> Result<Items<Register>, Al
 {
     let mut registers = Items::new(alloc);
     let name = Items::from_slice(alloc, heading.register_name)?;
-    registers.push(Register { number: heading.register, name, role: Role::Result })?;
+    registers.push(Register {
+        number: heading.register,
+        name,
+        role: Role::Result,
+    })?;
     Ok(registers)
 }
 
 /// The description with this heading and rows of these pieces.
-pub fn describe(alloc: Global, heading: &Heading<'_>, pieces: RowPieces) -> Result<RawDescription, AllocError>
+pub fn describe(
+    alloc: Global,
+    heading: &Heading<'_>,
+    pieces: RowPieces,
+) -> Result<RawDescription, AllocError>
     requires { (heading.now.word ≡ 16) ⊎ (heading.now.word ≡ 32) }
     ensures { IfOk result (λ d. d ≡ described heading.now pieces.set pieces.put pieces.end) }
 {

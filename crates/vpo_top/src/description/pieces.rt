@@ -108,5 +108,9 @@ pub fn read_pieces(alloc: Global, texts: &RowTexts<'_>) -> Result<RowPieces, Des
     let put = literals(alloc, texts.put)?;
     let end = literals(alloc, texts.end)?;
     let pieces = RowPieces { set, put, end };
-    if begin_differently(&pieces) { Ok(pieces) } else { Err(DescriptionFault::Refused) }
+    if begin_differently(&pieces) {
+        Ok(pieces)
+    } else {
+        Err(DescriptionFault::Refused)
+    }
 }

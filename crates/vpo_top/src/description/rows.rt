@@ -47,5 +47,10 @@ pub fn row_texts<'a>(lines: &Lines<'a>, digits: &[u8]) -> Option<RowTexts<'a>>
     let put = row_text(line_at(lines, 8), b" | OUT = r[", digits, b"]")?;
     let end = row_text(line_at(lines, 9), b" | HALT = r[", digits, b"]")?;
     let (before_hole, after_hole) = round_hole(set)?;
-    Some(RowTexts { before_hole, after_hole, put, end })
+    Some(RowTexts {
+        before_hole,
+        after_hole,
+        put,
+        end,
+    })
 }

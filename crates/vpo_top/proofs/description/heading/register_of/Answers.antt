@@ -8,15 +8,15 @@ use Rattle.vpo_top.proofs.description.heading.register_of.Goals as goal
 pub returns-in_err-digits-clause-none : goal.returns-in_err-digits-clause-none
 returns-in_err-digits-clause-none c =
     rw c.from_residual-in_err-digits.ensures
-      (λ k name h. c.in_err-digits.ensures.none (decimal k) name (register_split c.args.line.now c.in_ok-after.field-0.now c.in_ok-text.text.now name k c.in_ok-after.ensures c.in_ok-text.ensures h))
+    (λ k name h. c.in_err-digits.ensures.none (decimal k) name (register_split c.args.line.now c.in_ok-after.field-0.now c.in_ok-text.text.now name k c.in_ok-after.ensures c.in_ok-text.ensures h))
 
 pub returns-in_err-number-clause-none : goal.returns-in_err-number-clause-none
 returns-in_err-number-clause-none c =
     rw c.from_residual-in_err-number.ensures
-      (λ k name h.
-        let split = register_split c.args.line.now c.in_ok-after.field-0.now c.in_ok-text.text.now name k c.in_ok-after.ensures c.in_ok-text.ensures h in
-        c.in_err-number.ensures.none k (omega (arith, h.below))
-          (split_once 32 c.in_ok-text.text.now c.in_ok-digits.digits.now c.in_ok-digits.name.now (decimal k) name c.in_ok-digits.ensures.found split).0)
+    (λ k name h.
+    let split = register_split c.args.line.now c.in_ok-after.field-0.now c.in_ok-text.text.now name k c.in_ok-after.ensures c.in_ok-text.ensures h in
+    c.in_err-number.ensures.none k (omega (arith, h.below))
+    (split_once 32 c.in_ok-text.text.now c.in_ok-digits.digits.now c.in_ok-digits.name.now (decimal k) name c.in_ok-digits.ensures.found split).0)
 
 pub returns-then-not-is_register_name-clause-none : goal.returns-then-not-is_register_name-clause-none
 returns-then-not-is_register_name-clause-none c = λ k name h.

@@ -15,7 +15,7 @@ returns-in_err-literal-clause-refused c = λ e ts s.
     let p = err_from_is_err_and c.from_residual.result c.from_residual.ensures.1 in
     let same = err_same c.from_residual.result p.0 Refused p.1 e in
     not_literal c.args.text.now c.loop-first.rest.now (token_of c.in-Some-token_at.token) c.in-Some-token_at.length c.loop-first.pieces c.in-Some-token_at.ensures.found
-      (c.in_err-literal.ensures.refused (ap Err (sym p.2 ∙ same))) c.loop-first.invariant ts s
+    (c.in_err-literal.ensures.refused (ap Err (sym p.2 ∙ same))) c.loop-first.invariant ts s
 
 pub loop-first-smaller : goal.loop-first-smaller
 loop-first-smaller c = token_shorter c.loop-first.rest.now (token_of c.in-Some-token_at.token) c.in-Some-token_at.length c.in-Some-token_at.ensures.found
@@ -23,7 +23,7 @@ loop-first-smaller c = token_shorter c.loop-first.rest.now (token_of c.in-Some-t
 pub loop-first-preserved : goal.loop-first-preserved
 loop-first-preserved c =
     token_taken c.args.text.now c.loop-first.rest.now (token_of c.in-Some-token_at.token) c.in-Some-token_at.length c.loop-first.pieces c.push.new.self c.in_ok-literal.field-0
-      c.in_ok-push.ensures.ok c.in-Some-token_at.ensures.found c.in_ok-literal.ensures.found.1 c.in_ok-literal.ensures.found.0 c.loop-first.invariant
+    c.in_ok-push.ensures.ok c.in-Some-token_at.ensures.found c.in_ok-literal.ensures.found.1 c.in_ok-literal.ensures.found.0 c.loop-first.invariant
 
 pub returns-clause-found : goal.returns-clause-found
 returns-clause-found c = read_to_end c.args.text.now c.loop-first.rest.now c.loop-first.pieces c.in_default.ensures.value c.loop-first.invariant

@@ -1,5 +1,5 @@
 -- Instances: what an instruction of a description is, its tokens and the transfer that it makes.
-use Rattle.std.specs.Prelude.{◌≡◌, ◌≢◌, ℕ, ◌+◌, ◌^◌, ◌<◌, Bool, true, false, IsTrue, cond, List, [], ◌∷◌, length, map, slice_get, Option, Some, None, option_map, ℤ, All, AllPairs, filter_map, sum}
+use Rattle.std.specs.Prelude.{◌≡◌, ◌≢◌, ℕ, ◌^◌, IsTrue, List, [], ◌∷◌, map, slice_get, Option, Some, None, option_map, AllPairs, filter_map, sum}
 use Rattle.asm_token.specs.Tokens.{Token, Name as NameToken, Number as NumberToken, Mark as MarkToken}
 use Rattle.rtl_tree.specs.Trees.{Tree, Number, Symbol, CodeLabel, Read, Load, Unary, Binary, AnyNumber, AnyName}
 use Rattle.rtl_tree.specs.Moves.{Goal, ToCell, ToMemory, Move}

@@ -7,6 +7,7 @@
 
 mod description;
 mod instance;
+pub mod laws;
 mod print;
 mod row;
 

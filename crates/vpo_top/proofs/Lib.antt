@@ -22,3 +22,4 @@ pub mod Turns
 pub mod MachinePrints
 pub mod MachineEnds
 pub mod CompiledTo
+pub mod TextPrograms

@@ -1,6 +1,6 @@
 //! The theorem of the compiler, from the bytes of a description and of a source to the bytes of the text.
 
-ghost use Rattle.vpo_top.specs.Theorem.{DescribedHasWordSize, Compiles};
+ghost use Rattle.vpo_top.specs.Theorem.{DescribedHasWordSize, Compiles, TextHasAtMostOneProgram};
 
 /// Words have 16 or 32 bits.
 pub fn described_has_word_size()
@@ -11,4 +11,9 @@ pub fn described_has_word_size()
 /// what the source does, on every input.
 pub fn compiles()
     ensures { Compiles }
+{}
+
+/// An assembly text of a described machine has at most one program.
+pub fn at_most_one_program()
+    ensures { TextHasAtMostOneProgram }
 {}

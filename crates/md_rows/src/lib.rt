@@ -10,6 +10,8 @@ mod instance;
 pub mod laws;
 mod print;
 mod row;
+#[cfg(test)]
+mod tests;
 
 pub use description::{FlagName, RawDescription, Register, Role};
 pub use instance::{Binding, Bound, Instance};

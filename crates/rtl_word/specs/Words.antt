@@ -80,3 +80,29 @@ word_test w Geu a b = nat_le b a
 
 abbrev pub word_rel : ℕ → Rel → ℕ → ℕ → ℕ
 word_rel w r a b = cond (word_test w r a b) 1 0
+
+-- the relation that holds with the operands exchanged
+abbrev pub mirrored : Rel → Rel
+mirrored Eq = Eq
+mirrored Ne = Ne
+mirrored Lt = Gt
+mirrored Le = Ge
+mirrored Gt = Lt
+mirrored Ge = Le
+mirrored Ltu = Gtu
+mirrored Leu = Geu
+mirrored Gtu = Ltu
+mirrored Geu = Leu
+
+-- the relation that holds where a relation does not
+abbrev pub negated : Rel → Rel
+negated Eq = Ne
+negated Ne = Eq
+negated Lt = Ge
+negated Le = Gt
+negated Gt = Le
+negated Ge = Lt
+negated Ltu = Geu
+negated Leu = Gtu
+negated Gtu = Leu
+negated Geu = Ltu

@@ -2,18 +2,23 @@
 //!
 //! A word is a number below `2 ^ BITS`, held in a `u32`; its signed reading is two's complement. The trait [`Word`] has one
 //! function for each operator, and each is proved equal to its formula on numbers in `specs/Words.antt`, which takes the
-//! number of bits, and proved to give a word. [`W16`] and [`W32`] are the two sizes. What the formulas obey, as that a
-//! difference is the sum with the negated word, stands in `proofs/` for the crates above.
+//! number of bits, and proved to give a word. [`W16`] and [`W32`] are the two sizes. Laws of the formulas, as that a
+//! difference is the sum with the negated word, are the contracts of the empty functions of `laws`; what the crates above
+//! need besides stands in `proofs/`.
 #![tactic(auto)]
 
 ghost use Rattle.std.specs.Prelude.{IfSome, bit_and, bit_or, bit_xor, ◌≡◌, ℕ, ◌<◌, ◌^◌};
-ghost use Rattle.rtl_word.specs.Words.{IsWordSize, word_add, word_sub, word_neg, word_mul, word_not, word_div, word_rem, word_divu, word_remu, word_shl, word_shr, word_shru, word_sxb, word_rel};
+ghost use Rattle.rtl_word.specs.Words.{mirrored, negated, IsWordSize, word_add, word_sub, word_neg, word_mul, word_not, word_div, word_rem, word_divu, word_remu, word_shl, word_shr, word_shru, word_sxb, word_rel};
 
 mod bits16;
 mod bits32;
+mod laws;
+#[cfg(test)]
+mod tests;
 
 pub use bits16::W16;
 pub use bits32::W32;
+pub use laws::{difference_is_sum, product_by_doubling, relations, shift_is_product, signed_division, signed_reading};
 
 /// The ten relations between two words: equal, not equal, the four orders of the signed readings, and the four
 /// orders of the unsigned ones.
@@ -29,6 +34,44 @@ pub enum Rel {
     Leu,
     Gtu,
     Geu,
+}
+
+impl Rel {
+    /// The relation of `b` to `a` that holds where this one holds of `a` to `b`.
+    pub fn mirrored(self) -> Rel
+        ensures { result ≡ mirrored self }
+    {
+        match self {
+            Rel::Eq => Rel::Eq,
+            Rel::Ne => Rel::Ne,
+            Rel::Lt => Rel::Gt,
+            Rel::Le => Rel::Ge,
+            Rel::Gt => Rel::Lt,
+            Rel::Ge => Rel::Le,
+            Rel::Ltu => Rel::Gtu,
+            Rel::Leu => Rel::Geu,
+            Rel::Gtu => Rel::Ltu,
+            Rel::Geu => Rel::Leu,
+        }
+    }
+
+    /// The relation that holds of two words where this one does not.
+    pub fn negated(self) -> Rel
+        ensures { result ≡ negated self }
+    {
+        match self {
+            Rel::Eq => Rel::Ne,
+            Rel::Ne => Rel::Eq,
+            Rel::Lt => Rel::Ge,
+            Rel::Le => Rel::Gt,
+            Rel::Gt => Rel::Le,
+            Rel::Ge => Rel::Lt,
+            Rel::Ltu => Rel::Geu,
+            Rel::Leu => Rel::Gtu,
+            Rel::Gtu => Rel::Leu,
+            Rel::Geu => Rel::Ltu,
+        }
+    }
 }
 
 /// The operators on words of `BITS` bits. Those that answer an `Option` answer `None` exactly where they trap: a division

@@ -42,4 +42,3 @@ neg_not w a z =
 
 pub not_not : (w a : ℕ) → a < 2 ^ w → word_not w (word_not w a) ≡ a
 not_not w a h = omega arith
-

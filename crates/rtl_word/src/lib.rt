@@ -18,7 +18,10 @@ mod tests;
 
 pub use bits16::W16;
 pub use bits32::W32;
-pub use laws::{difference_is_sum, product_by_doubling, relations, shift_is_product, signed_division, signed_reading};
+pub use laws::{
+    difference_is_sum, product_by_doubling, relations, shift_is_product, signed_division,
+    signed_reading,
+};
 
 /// The ten relations between two words: equal, not equal, the four orders of the signed readings, and the four
 /// orders of the unsigned ones.

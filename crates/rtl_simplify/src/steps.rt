@@ -1,0 +1,87 @@
+//! The rules in their order, at each node until none applies.
+
+ghost use Rattle.std.specs.Prelude.{◌≡◌, is_some, unwrap_or};
+ghost use Rattle.rtl_tree.specs.Trees.{tree_of};
+ghost use Rattle.rtl_norm.specs.Numbers.{IsFitting};
+ghost use Rattle.rtl_norm.specs.Normal.{step, finish, norm};
+
+use crate::rules;
+use rtl_tree::Expr;
+use rtl_word::Word;
+
+/// The first rule that applies at the root, if one does.
+#[tactic(auto, unfolding(rtl_norm::specs::Normal::step))]
+fn apply<W: Word>(e: &mut Expr) -> bool
+    requires { IsFitting W.BITS (tree_of e.old) }
+    ensures done { result ≡ is_some (step W.BITS (tree_of e.old)) }
+    ensures left { tree_of e.new ≡ unwrap_or (step W.BITS (tree_of e.old)) (tree_of e.old) }
+{
+    if rules::fold::<W>(e) {
+        return true;
+    }
+    if rules::swap(e) {
+        return true;
+    }
+    if rules::mirror(e) {
+        return true;
+    }
+    if rules::minus::<W>(e) {
+        return true;
+    }
+    if rules::negate(e) {
+        return true;
+    }
+    if rules::join::<W>(e) {
+        return true;
+    }
+    if rules::neutral::<W>(e) {
+        return true;
+    }
+    if rules::twice(e) {
+        return true;
+    }
+    if rules::extend(e) {
+        return true;
+    }
+    if rules::cut(e) {
+        return true;
+    }
+    if rules::byte(e) {
+        return true;
+    }
+    if rules::pair(e) {
+        return true;
+    }
+    rules::when(e)
+}
+
+/// Rules at the root, until none applies.
+fn settle<W: Word>(e: &mut Expr)
+    requires { IsFitting W.BITS (tree_of e.old) }
+    ensures { tree_of e.new ≡ finish W.BITS (tree_of e.old) }
+{
+    'steps: while apply::<W>(e) {}
+}
+
+/// Leaves the normal form of the tree.
+pub fn normalise<W: Word>(e: &mut Expr)
+    requires { IsFitting W.BITS (tree_of e.old) }
+    ensures { tree_of e.new ≡ norm W.BITS (tree_of e.old) }
+{
+    match e {
+        Expr::Mem(_, a) => {
+            normalise::<W>(a);
+            settle::<W>(e);
+        }
+        Expr::Un(_, a) => {
+            normalise::<W>(a);
+            settle::<W>(e);
+        }
+        Expr::Bin(_, a, b) => {
+            normalise::<W>(a);
+            normalise::<W>(b);
+            settle::<W>(e);
+        }
+        _ => {}
+    }
+}

@@ -8,5 +8,7 @@ mod folding;
 mod moves;
 mod rules;
 mod steps;
+mod transfers;
 
 pub use steps::normalise;
+pub use transfers::normalise_effects;

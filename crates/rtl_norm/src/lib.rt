@@ -9,6 +9,10 @@
 ghost use Rattle.std.specs.Prelude.{◌≡◌, ℕ, Some, None};
 ghost use Rattle.rtl_word.specs.Words.{IsWordSize};
 ghost use Rattle.rtl_tree.specs.Trees.{Tree};
+ghost use Rattle.std.specs.Prelude.{List};
+ghost use Rattle.std.specs.List.{All};
+ghost use Rattle.rtl_tree.specs.Moves.{Move};
+ghost use Rattle.rtl_norm.specs.Transfers.{norm_moves, IsMoveFitting};
 ghost use Rattle.rtl_norm.specs.Numbers.{IsFitting};
 ghost use Rattle.rtl_norm.specs.Normal.{step, finish, norm, IsNormal};
 
@@ -31,3 +35,11 @@ pub fn normal_form_is_normal()
 pub fn normal_form_fits()
     ensures { (w : ℕ) (t : Tree) → IsWordSize w → IsFitting w t → IsFitting w (norm w t) }
 {}
+
+/// The normal form of a transfer is its own normal form, and its numbers are words where those of the transfer are.
+#[tactic(auto, using(crate::proofs::Stored::moves_twice, crate::proofs::Stored::moves_fit))]
+pub fn normal_transfer_is_normal()
+    ensures idempotent { (w : ℕ) (ms : List Move) → norm_moves w (norm_moves w ms) ≡ norm_moves w ms }
+    ensures fits { (w : ℕ) (ms : List Move) → IsWordSize w → All (IsMoveFitting w) ms → All (IsMoveFitting w) (norm_moves w ms) }
+{
+}

@@ -1,18 +1,18 @@
 -- A transfer in normal form is its own normal form, and its numbers are words.
-use Rattle.std.proofs.Common.{◌≡◌, ℕ, ◌≤◌, Bool, true, false, cond, Option, Some, None, List, [], ◌∷◌, map, refl, sym, ap, ◌∙◌, arith}
+use Rattle.std.proofs.Common.{◌≡◌, ℕ, true, false, cond, Option, Some, None, List, [], ◌∷◌, refl, sym, ap, ◌∙◌, arith}
 use Rattle.std.specs.Prelude.{◌==◌, nat_le}
 use Rattle.std.specs.List.{All}
 use Rattle.std.specs.Prelude.{get_or}
 use Rattle.std.proofs.lemmas.List.Elements.{All-map}
 use Rattle.std.proofs.lemmas.Bool.Decides.{nat_tests}
 use Rattle.rtl_word.specs.Words.{IsWordSize}
-use Rattle.rtl_tree.specs.Trees.{Tree, Number, Symbol, CodeLabel, Read, Load, Unary, Binary, NoPair, AnyNumber, AnyName}
+use Rattle.rtl_tree.specs.Trees.{Tree, Number, Unary, Binary}
 use Rattle.rtl_tree.specs.Moves.{Goal, ToCell, ToMemory, Move}
 use Rattle.rtl_tree.specs.declared.expressions.Width.TheVariants.{Byte, Full}
-use Rattle.rtl_tree.specs.declared.expressions.UnOp.TheVariants.{Neg, Not, Sxb, Test}
+use Rattle.rtl_tree.specs.declared.expressions.UnOp.TheVariants.{Sxb}
 use Rattle.rtl_tree.specs.declared.expressions.BinOp.TheVariants.{And}
 use Rattle.rtl_norm.specs.Numbers.{IsFitting}
-use Rattle.rtl_norm.specs.Rules.{fold_rule, swap_rule, mirror_rule, minus_rule, negate_rule, join_rule, neutral_rule, twice_rule, extend_rule, cut_rule, byte_rule, pair_rule, when_rule}
+use Rattle.rtl_norm.specs.Rules.{fold_rule, swap_rule, mirror_rule, minus_rule, negate_rule, join_rule, neutral_rule, twice_rule, extend_rule, cut_rule}
 use Rattle.rtl_norm.specs.Normal.{or_else, step, norm, IsNormal}
 use Rattle.rtl_norm.specs.Transfers.{stored_byte, norm_goal, norm_value, norm_move, norm_moves, IsGoalFitting, IsMoveFitting}
 use Rattle.rtl_norm.proofs.Rewrites.{none_some}

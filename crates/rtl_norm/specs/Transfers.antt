@@ -1,8 +1,8 @@
 -- The normal form of a transfer.
-use Rattle.std.specs.Prelude.{ℕ, ◌==◌, Bool, true, false, cond, List, map}
+use Rattle.std.specs.Prelude.{ℕ, ◌==◌, cond, List, map}
 use Rattle.rtl_tree.specs.Trees.{Tree, Number, Unary, Binary}
 use Rattle.rtl_tree.specs.Moves.{Goal, ToCell, ToMemory, Move}
-use Rattle.rtl_tree.specs.declared.expressions.Width.TheVariants.{Byte, Full}
+use Rattle.rtl_tree.specs.declared.expressions.Width.TheVariants.{Byte}
 use Rattle.rtl_tree.specs.declared.expressions.UnOp.TheVariants.{Sxb}
 use Rattle.rtl_tree.specs.declared.expressions.BinOp.TheVariants.{And}
 use Rattle.rtl_norm.specs.Numbers.{IsFitting}

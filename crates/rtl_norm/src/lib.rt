@@ -41,5 +41,4 @@ pub fn normal_form_fits()
 pub fn normal_transfer_is_normal()
     ensures idempotent { (w : ℕ) (ms : List Move) → norm_moves w (norm_moves w ms) ≡ norm_moves w ms }
     ensures fits { (w : ℕ) (ms : List Move) → IsWordSize w → All (IsMoveFitting w) ms → All (IsMoveFitting w) (norm_moves w ms) }
-{
-}
+{}

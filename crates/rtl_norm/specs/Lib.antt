@@ -2,3 +2,4 @@ pub mod Numbers
 pub mod Rules
 pub mod Normal
 pub mod Transfers
+pub mod Sorts

@@ -1,0 +1,15 @@
+//! What the normal form of a tree keeps: what is seen of it in every view, and so its value in every state.
+//!
+//! The laws are the contracts of empty functions. They speak of trees of words, as `value` may be given them: flags and pairs
+//! stand only under tests. Their numbers are below 2 to the word's bits, and so is what is set in the view.
+#![tactic(auto)]
+
+ghost use Rattle.rtl_norm_value.specs.Kept.{SeenIsKept};
+
+/// In every view, whatever is unset there, the normal form of a tree is seen as the tree is: the same word, nothing where that
+/// is unset, or the same trap.
+#[tactic(auto, using(crate::proofs::Seen::seen_is_kept))]
+pub fn normal_form_is_seen_alike()
+    ensures { SeenIsKept }
+{
+}

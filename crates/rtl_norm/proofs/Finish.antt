@@ -8,7 +8,8 @@ use Rattle.rtl_tree.specs.declared.expressions.UnOp.{UnOp}
 use Rattle.rtl_tree.specs.declared.expressions.UnOp.TheVariants.{Neg, Not, Sxb, Test}
 use Rattle.rtl_tree.specs.declared.expressions.BinOp.{BinOp}
 use Rattle.rtl_tree.specs.declared.expressions.BinOp.TheVariants.{Add, Sub, Mul, Div, Divu, Rem, Remu, And, Or, Xor, Shl, Shr, Shru, Cmp, Pair, When}
-use Rattle.rtl_norm.specs.Numbers.{IsFitting, unary_number, binary_number}
+use Rattle.rtl_tree.specs.Sorts.{IsFitting}
+use Rattle.rtl_norm.specs.Numbers.{unary_number, binary_number}
 use Rattle.rtl_norm.specs.Rules.{joined}
 use Rattle.rtl_norm.specs.Normal.{step, weight, follow, steps, finish, norm}
 use Rattle.rtl_norm.proofs.Rewrites.{Rewrites, folds, folds_one, swaps, adds, joins, drops, compares, mirrors, negates, twice_neg, twice_not, extends, extends_low, cuts, bytes, goes, step_sound, falls, weight_pos, none_some}

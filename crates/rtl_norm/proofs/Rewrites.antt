@@ -10,7 +10,8 @@ use Rattle.rtl_tree.specs.declared.expressions.UnOp.{UnOp}
 use Rattle.rtl_tree.specs.declared.expressions.UnOp.TheVariants.{Neg, Not, Sxb, Test}
 use Rattle.rtl_tree.specs.declared.expressions.BinOp.{BinOp}
 use Rattle.rtl_tree.specs.declared.expressions.BinOp.TheVariants.{Add, Sub, And, Cmp, Pair, When}
-use Rattle.rtl_norm.specs.Numbers.{IsFitting, is_constant, unary_number, binary_number}
+use Rattle.rtl_tree.specs.Sorts.{IsFitting}
+use Rattle.rtl_norm.specs.Numbers.{is_constant, unary_number, binary_number}
 use Rattle.rtl_norm.specs.Rules.{folded, number_if, fold_rule, swap_rule, is_order, mirror_rule, minus_rule, negate_rule, joined, joined_number, left_of, binary_if, join_rule, is_neutral, neutral_rule, twice_rule, extend_rule, cut_rule, byte_rule, pair_rule, when_rule}
 use Rattle.rtl_norm.specs.Normal.{or_else, step, weight, sub_weight, constant_weight}
 

@@ -11,7 +11,7 @@ use Rattle.rtl_tree.specs.Moves.{Goal, ToCell, ToMemory, Move}
 use Rattle.rtl_tree.specs.declared.expressions.Width.TheVariants.{Byte, Full}
 use Rattle.rtl_tree.specs.declared.expressions.UnOp.TheVariants.{Sxb}
 use Rattle.rtl_tree.specs.declared.expressions.BinOp.TheVariants.{And}
-use Rattle.rtl_norm.specs.Numbers.{IsFitting}
+use Rattle.rtl_tree.specs.Sorts.{IsFitting}
 use Rattle.rtl_norm.specs.Rules.{fold_rule, swap_rule, mirror_rule, minus_rule, negate_rule, join_rule, neutral_rule, twice_rule, extend_rule, cut_rule}
 use Rattle.rtl_norm.specs.Normal.{or_else, step, norm, IsNormal}
 use Rattle.rtl_norm.specs.Transfers.{stored_byte, norm_goal, norm_value, norm_move, norm_moves, IsGoalFitting, IsMoveFitting}

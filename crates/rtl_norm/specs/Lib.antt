@@ -2,4 +2,3 @@ pub mod Numbers
 pub mod Rules
 pub mod Normal
 pub mod Transfers
-pub mod Sorts

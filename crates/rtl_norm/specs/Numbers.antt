@@ -1,19 +1,11 @@
 -- The numbers of a tree, and operators on numbers.
-use Rattle.std.specs.Prelude.{ℕ, ◌^◌, ◌<◌, Bool, true, false, Option, Some, None, bit_and, bit_or, bit_xor}
+use Rattle.std.specs.Prelude.{ℕ, Bool, true, false, Option, Some, None, bit_and, bit_or, bit_xor}
 use Rattle.rtl_word.specs.Words.{word_add, word_sub, word_mul, word_neg, word_not, word_sxb, word_rel, word_div, word_divu, word_rem, word_remu, word_shl, word_shr, word_shru}
-use Rattle.rtl_tree.specs.Trees.{Tree, Number, AnyNumber, Load, Unary, Binary}
+use Rattle.rtl_tree.specs.Trees.{Tree, Number, AnyNumber}
 use Rattle.rtl_tree.specs.declared.expressions.UnOp.{UnOp}
 use Rattle.rtl_tree.specs.declared.expressions.UnOp.TheVariants.{Neg, Not, Sxb, Test}
 use Rattle.rtl_tree.specs.declared.expressions.BinOp.{BinOp}
 use Rattle.rtl_tree.specs.declared.expressions.BinOp.TheVariants.{Add, Sub, Mul, Div, Divu, Rem, Remu, And, Or, Xor, Shl, Shr, Shru, Cmp, Pair, When}
-
--- the numbers in a tree are words
-abbrev pub IsFitting : ℕ → Tree → Type 0
-IsFitting w (Number n) = n < 2 ^ w
-IsFitting w (Load d a) = IsFitting w a
-IsFitting w (Unary o a) = IsFitting w a
-IsFitting w (Binary o a b) = IsFitting w a × IsFitting w b
-IsFitting w _ = Unit {0}
 
 -- a number, and a number or the hole for one
 abbrev pub is_number : Tree → Bool

@@ -5,7 +5,7 @@ use Rattle.rtl_tree.specs.Moves.{Goal, ToCell, ToMemory, Move}
 use Rattle.rtl_tree.specs.declared.expressions.Width.TheVariants.{Byte}
 use Rattle.rtl_tree.specs.declared.expressions.UnOp.TheVariants.{Sxb}
 use Rattle.rtl_tree.specs.declared.expressions.BinOp.TheVariants.{And}
-use Rattle.rtl_norm.specs.Numbers.{IsFitting}
+use Rattle.rtl_tree.specs.Sorts.{IsFitting}
 use Rattle.rtl_norm.specs.Normal.{norm}
 
 -- the byte rule: B[a] = (sxb b) and B[a] = (b & 255) become B[a] = b

@@ -13,7 +13,7 @@ ghost use Rattle.std.specs.Prelude.{List};
 ghost use Rattle.std.specs.List.{All};
 ghost use Rattle.rtl_tree.specs.Moves.{Move};
 ghost use Rattle.rtl_norm.specs.Transfers.{norm_moves, IsMoveFitting};
-ghost use Rattle.rtl_norm.specs.Numbers.{IsFitting};
+ghost use Rattle.rtl_tree.specs.Sorts.{IsFitting};
 ghost use Rattle.rtl_norm.specs.Normal.{step, finish, norm, IsNormal};
 
 /// What is left of a node by its rules: each rule leads to it, and none applies to it.

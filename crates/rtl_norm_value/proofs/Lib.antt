@@ -1,3 +1,4 @@
 pub mod Operators
 pub mod Words
 pub mod Seen
+pub mod Value

@@ -1,19 +1,18 @@
 -- The laws of operators that the rules rest on.
-use Rattle.std.proofs.Common.{◌≡◌, ℕ, ◌+◌, ◌-◌, ◌%◌, ◌^◌, ◌<◌, ◌≤◌, Bool, true, false, not, cond, Option, Some, None, Result, Ok, Err, nat_eq, nat_lt, bit_and, bit_or, arith, refl, sym, ap, subst, ◌∙◌}
-use Rattle.std.specs.Prelude.{◌==◌, nat_le, if◌then◌else◌, ◌||◌}
+use Rattle.std.proofs.Common.{◌≡◌, ℕ, ◌-◌, ◌^◌, ◌<◌, true, false, Option, Some, Ok, bit_and, bit_or, arith, refl, sym, ap, subst, ◌∙◌}
+use Rattle.std.specs.Prelude.{◌==◌}
 use Rattle.std.proofs.lemmas.Bool.Decides.{nat_tests}
 use Rattle.std.proofs.lemmas.Nat.{and_comm, or_comm, xor_comm, and_assoc}
 use Rattle.std.specs.Int.Bits.{or_zero_r, xor_zero_r}
-use Rattle.rtl_word.specs.declared.Rel.{Rel}
-use Rattle.rtl_word.specs.declared.Rel.TheVariants.{Eq, Ne, Lt, Le, Gt, Ge, Ltu, Leu, Gtu, Geu}
-use Rattle.rtl_word.specs.Words.{IsWordSize, word_add, word_sub, word_neg, word_not, word_sxb, word_div, word_shl, word_shr, word_shru, word_rel, mirrored}
+use Rattle.rtl_word.specs.declared.Rel.TheVariants.{Eq, Ne}
+use Rattle.rtl_word.specs.Words.{IsWordSize, word_add}
 use Rattle.rtl_word.proofs.Below.{by_size}
 use Rattle.rtl_word.proofs.Sums.{add_comm, add_assoc, add_zero}
 use Rattle.rtl_word.proofs.Products.{mul_commutes, mul_one}
 use Rattle.rtl_word.proofs.Bitwise.{or_assoc, and_ones}
 use Rattle.rtl_word.proofs.Shifts.{shl_none, shr_none, shru_none}
 use Rattle.rtl_word.proofs.Quotients.{div_one, divu_one}
-use Rattle.rtl_word.proofs.Comparisons.{test_mirrored, rel_mirrored}
+use Rattle.rtl_word.proofs.Comparisons.{rel_mirrored}
 use Rattle.rtl_tree.specs.Likeness.{commutes}
 use Rattle.rtl_tree.specs.declared.expressions.UnOp.{UnOp}
 use Rattle.rtl_tree.specs.declared.expressions.UnOp.TheVariants.{Neg, Not, Sxb, Test}

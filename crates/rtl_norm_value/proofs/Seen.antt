@@ -1,28 +1,27 @@
 -- The normal form is seen as the tree is, in every view of words.
-use Rattle.std.proofs.Common.{◌≡◌, ℕ, ◌+◌, ◌*◌, ◌^◌, ◌<◌, ◌≤◌, Bool, true, false, cond, Option, Some, None, Result, Ok, Err, bit_and, arith, refl, sym, ap, subst, ◌∙◌}
+use Rattle.std.proofs.Common.{◌≡◌, ℕ, ◌^◌, ◌≤◌, Bool, true, false, Option, Some, None, Ok, Err, bit_and, arith, refl, sym, ap, subst, ◌∙◌}
 use Rattle.std.specs.Prelude.{◌==◌, nat_le, if◌then◌else◌}
 use Rattle.std.proofs.lemmas.Bool.Decides.{nat_tests}
 use Rattle.rtl_word.specs.declared.Rel.{Rel}
-use Rattle.rtl_word.specs.Words.{IsWordSize, word_neg, word_sxb, word_rel, mirrored}
+use Rattle.rtl_word.specs.Words.{IsWordSize, word_neg, mirrored}
 use Rattle.rtl_word.proofs.Sums.{add_neg, zero_sub, neg_neg, not_not}
 use Rattle.rtl_word.proofs.Bitwise.{sxb_sxb, sxb_and, sxb_cut, byte_cut}
 use Rattle.rtl_word.proofs.Comparisons.{rel_mirrored}
 use Rattle.rtl_tree.specs.Trees.{Tree, Number, Symbol, CodeLabel, Read, Load, Unary, Binary, NoPair, AnyNumber, AnyName}
 use Rattle.rtl_tree.specs.Likeness.{commutes}
 use Rattle.rtl_tree.specs.declared.cells.Cell.TheVariants.{Flag}
-use Rattle.rtl_tree.specs.declared.expressions.Width.TheVariants.{Byte}
 use Rattle.rtl_tree.specs.declared.expressions.UnOp.{UnOp}
 use Rattle.rtl_tree.specs.declared.expressions.UnOp.TheVariants.{Neg, Not, Sxb, Test}
 use Rattle.rtl_tree.specs.declared.expressions.BinOp.{BinOp}
-use Rattle.rtl_tree.specs.declared.expressions.BinOp.TheVariants.{Add, Sub, And, Or, Cmp, Pair, When}
-use Rattle.rtl_norm.specs.Numbers.{IsFitting, is_constant, unary_number, binary_number}
+use Rattle.rtl_tree.specs.declared.expressions.BinOp.TheVariants.{Add, Sub, And, Cmp, Pair}
+use Rattle.rtl_tree.specs.Sorts.{IsFitting}
+use Rattle.rtl_norm.specs.Numbers.{is_constant, unary_number}
 use Rattle.rtl_norm.specs.Rules.{joined, is_neutral}
-use Rattle.rtl_norm.specs.Sorts.{IsOperation, IsWordTree, IsTestedTree}
+use Rattle.rtl_tree.specs.Sorts.{IsWordTree, IsTestedTree}
 use Rattle.rtl_norm.specs.Normal.{step, finish, norm}
 use Rattle.rtl_norm.proofs.Rewrites.{Rewrites, folds, folds_one, swaps, adds, joins, drops, compares, mirrors, negates, twice_neg, twice_not, extends, extends_low, cuts, bytes, goes, step_sound, none_some}
 use Rattle.rtl_norm.proofs.Finish.{finish_keeps, finish_done, fits_kept, norm_fits}
-use Rattle.rtl_value.specs.Values.{unary_of, binary_of}
-use Rattle.rtl_effect.specs.Views.{Stop, Wild, View, width_of, Seen, bind, lifted, may_trap, some_trap, binary_seen, unary_on, binary_on, load_on, seen, test_seen}
+use Rattle.rtl_effect.specs.Views.{Wild, View, width_of, Seen, lifted, unary_on, binary_on, load_on, seen, test_seen}
 use Rattle.rtl_norm_value.specs.Kept.{IsWordView, SeenIsKept}
 use Rattle.rtl_norm_value.proofs.Operators.{unary_folded, binary_folded, binary_commutes, commuting_is_total, binary_joins, joining_is_total, is_number_of, binary_neutral, neutral_is_total}
 use Rattle.rtl_norm_value.proofs.Words.{IsBelow, seen_below, byte_load_below}

@@ -1,9 +1,9 @@
 -- What is seen in a view of words is a word.
-use Rattle.std.proofs.Common.{◌≡◌, ℕ, zero, suc, ◌+◌, ◌*◌, ◌/◌, ◌%◌, ◌^◌, ◌<◌, ◌≤◌, Bool, true, false, Option, Some, None, Result, Ok, Err, arith, refl, sym, ap, subst, ◌∙◌}
-use Rattle.std.specs.Prelude.{◌==◌, nat_le, if◌then◌else◌}
+use Rattle.std.proofs.Common.{◌≡◌, ℕ, zero, suc, ◌+◌, ◌*◌, ◌/◌, ◌^◌, ◌<◌, ◌≤◌, Bool, true, false, Option, Some, None, Result, Ok, Err, arith, refl, subst}
+use Rattle.std.specs.Prelude.{if◌then◌else◌}
 use Rattle.std.proofs.lemmas.Nat.{or_lt, xor_lt, pow-add}
 use Rattle.rtl_word.specs.declared.Rel.{Rel}
-use Rattle.rtl_word.specs.Words.{IsWordSize, word_rel}
+use Rattle.rtl_word.specs.Words.{IsWordSize}
 use Rattle.rtl_word.proofs.Below.{by_size, word_add-below, word_sub-below, word_mul-below, word_neg-below, word_not-below, word_sxb-below, word_rel-below, word_div-below, word_divu-below, word_rem-below, word_remu-below, word_shl-below, word_shr-below, word_shru-below, bit_and-below}
 use Rattle.rtl_tree.specs.Trees.{Tree, Number, Symbol, CodeLabel, Read, Load, Unary, Binary, NoPair, AnyNumber, AnyName}
 use Rattle.rtl_tree.specs.declared.cells.Cell.TheVariants.{Flag}
@@ -13,11 +13,11 @@ use Rattle.rtl_tree.specs.declared.expressions.UnOp.{UnOp}
 use Rattle.rtl_tree.specs.declared.expressions.UnOp.TheVariants.{Neg, Not, Sxb, Test}
 use Rattle.rtl_tree.specs.declared.expressions.BinOp.{BinOp}
 use Rattle.rtl_tree.specs.declared.expressions.BinOp.TheVariants.{Add, Sub, Mul, Div, Divu, Rem, Remu, And, Or, Xor, Shl, Shr, Shru, Cmp, Pair, When}
-use Rattle.rtl_norm.specs.Numbers.{IsFitting}
+use Rattle.rtl_tree.specs.Sorts.{IsFitting}
 use Rattle.rtl_norm.proofs.Rewrites.{none_some}
 use Rattle.rtl_value.specs.declared.state.Trap.{Trap}
-use Rattle.rtl_value.specs.Values.{or_trap, unary_of, binary_of}
-use Rattle.rtl_effect.specs.Views.{Stop, Traps, Wild, Mark, Holds, Gone, View, Seen, bind, lifted, both, word_at, all_reached, width_of, touched, mark_test, may_trap, some_trap, unary_seen, binary_seen, unary_on, binary_on, load_on, seen, test_seen}
+use Rattle.rtl_value.specs.Values.{or_trap, binary_of}
+use Rattle.rtl_effect.specs.Views.{Stop, Traps, Wild, Mark, Holds, Gone, View, Seen, bind, lifted, both, word_at, width_of, touched, mark_test, may_trap, some_trap, unary_on, binary_on, load_on, seen, test_seen}
 use Rattle.rtl_norm_value.specs.Kept.{IsWordView}
 
 -- what is seen, if it is set, is below a bound

@@ -2,7 +2,8 @@
 
 ghost use Rattle.std.specs.Prelude.{IsTrue, ◌↔◌, ◌≡◌, is_some, unwrap_or};
 ghost use Rattle.rtl_tree.specs.Trees.{tree_of};
-ghost use Rattle.rtl_norm.specs.Numbers.{IsFitting, is_constant};
+ghost use Rattle.rtl_tree.specs.Sorts.{IsFitting};
+ghost use Rattle.rtl_norm.specs.Numbers.{is_constant};
 ghost use Rattle.rtl_norm.specs.Rules.{folded, fold_rule, swap_rule, is_order, mirror_rule, minus_rule, negate_rule, joined_number, join_rule, is_neutral, neutral_rule, twice_rule, extend_rule, cut_rule, byte_rule, pair_rule, when_rule};
 ghost use Rattle.rtl_simplify.specs.Shapes.{IsByteRead, IsFromZero, is_low_byte};
 

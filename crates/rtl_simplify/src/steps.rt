@@ -2,7 +2,7 @@
 
 ghost use Rattle.std.specs.Prelude.{◌≡◌, is_some, unwrap_or};
 ghost use Rattle.rtl_tree.specs.Trees.{tree_of};
-ghost use Rattle.rtl_norm.specs.Numbers.{IsFitting};
+ghost use Rattle.rtl_tree.specs.Sorts.{IsFitting};
 ghost use Rattle.rtl_norm.specs.Normal.{step, finish, norm};
 
 use crate::rules;

@@ -1,6 +1,6 @@
 use Rattle.std.proofs.Common.{◌≡◌}
 use Rattle.rtl_tree.specs.Trees.{tree_of}
-use Rattle.rtl_norm.specs.Numbers.{IsFitting}
+use Rattle.rtl_tree.specs.Sorts.{IsFitting}
 use Rattle.rtl_norm.specs.Normal.{weight, finish}
 use Rattle.rtl_simplify.proofs.steps.settle.Given as goal
 

@@ -2,3 +2,5 @@ pub mod Operators
 pub mod Words
 pub mod Seen
 pub mod Value
+pub mod Sorted
+pub mod Same

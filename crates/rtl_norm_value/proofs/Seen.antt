@@ -137,7 +137,7 @@ unary_number_seen w Sxb a n v e h = ap (λ m. Ok (Some m)) (sym (unary_folded w 
 unary_number_seen w (Test r) a n v e h = absurd h
 
 -- one rule keeps what is seen
-seen_kept : (w : ℕ) (v : View) → IsWordSize w → IsWordView w v → (t u : Tree) → Rewrites w t u → IsFitting w t → IsWordTree t → seen w u v ≡ seen w t v
+pub seen_kept : (w : ℕ) (v : View) → IsWordSize w → IsWordView w v → (t u : Tree) → Rewrites w t u → IsFitting w t → IsWordTree t → seen w u v ≡ seen w t v
 seen_kept w v z k _ _ (folds o a b n e) f h = ap lifted (sym (binary_folded w o a b n e))
 seen_kept w v z k _ _ (folds_one o a n e) f h = unary_number_seen w o a n v e h
 seen_kept w v z k _ _ (swaps o a b e l m) f h = swap_seen w o a b v e l h.1
@@ -156,7 +156,7 @@ seen_kept w v z k _ _ (bytes a c e) f h = seen_bytes w c (load_on 1 v (seen w a 
 seen_kept w v z k _ _ (goes a c e) f h = absurd h.0
 
 -- one rule keeps a word a word
-word_kept : (w : ℕ) (t u : Tree) → Rewrites w t u → IsWordTree t → IsWordTree u
+pub word_kept : (w : ℕ) (t u : Tree) → Rewrites w t u → IsWordTree t → IsWordTree u
 word_kept w _ _ (folds o a b n e) h = tt
 word_kept w _ _ (folds_one o a n e) h = tt
 word_kept w _ _ (swaps o a b e k l) h = (h.0, h.2, h.1)

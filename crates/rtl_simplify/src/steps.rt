@@ -2,7 +2,9 @@
 
 ghost use Rattle.std.specs.Prelude.{◌≡◌, is_some, unwrap_or};
 ghost use Rattle.rtl_tree.specs.Trees.{tree_of};
-ghost use Rattle.rtl_tree.specs.Sorts.{IsFitting};
+ghost use Rattle.rtl_tree.specs.Sorts.{IsFitting, IsWordTree};
+ghost use Rattle.rtl_value.specs.declared.state.State.{State};
+ghost use Rattle.rtl_value.specs.Values.{IsSound, value_of};
 ghost use Rattle.rtl_norm.specs.Normal.{step, finish, norm};
 
 use crate::rules;
@@ -64,24 +66,36 @@ fn settle<W: Word>(e: &mut Expr)
 }
 
 /// Leaves the normal form of the tree.
-pub fn normalise<W: Word>(e: &mut Expr)
+fn reduce<W: Word>(e: &mut Expr)
     requires { IsFitting W.BITS (tree_of e.old) }
     ensures { tree_of e.new ≡ norm W.BITS (tree_of e.old) }
 {
     match e {
         Expr::Mem(_, a) => {
-            normalise::<W>(a);
+            reduce::<W>(a);
             settle::<W>(e);
         }
         Expr::Un(_, a) => {
-            normalise::<W>(a);
+            reduce::<W>(a);
             settle::<W>(e);
         }
         Expr::Bin(_, a, b) => {
-            normalise::<W>(a);
-            normalise::<W>(b);
+            reduce::<W>(a);
+            reduce::<W>(b);
             settle::<W>(e);
         }
         _ => {}
     }
+}
+
+/// Leaves the normal form of the tree. It has the tree's value in every state, and traps exactly where the tree does, if flags
+/// and pairs stand only under tests in it. No memory is taken.
+pub fn normalise<W: Word>(e: &mut Expr)
+    requires { IsFitting W.BITS (tree_of e.old) }
+    ensures tree { tree_of e.new ≡ norm W.BITS (tree_of e.old) }
+    ensures fits { IsFitting W.BITS (tree_of e.new) }
+    ensures value { (s : State) → IsSound W.BITS s → IsWordTree (tree_of e.old)
+        → value_of W.BITS (tree_of e.new) s ≡ value_of W.BITS (tree_of e.old) s }
+{
+    reduce::<W>(e);
 }

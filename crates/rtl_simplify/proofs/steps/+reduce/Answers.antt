@@ -1,6 +1,6 @@
 use Rattle.std.proofs.Common.{rules}
 use Rattle.rtl_norm.proofs.Finish.{norm_fits}
-use Rattle.rtl_simplify.proofs.steps.+normalise.Goals as goal
+use Rattle.rtl_simplify.proofs.steps.+reduce.Goals as goal
 
 pub settle-requires : goal.settle-requires
 settle-requires g t c = search (rules, norm_fits, g.met.W.Word.sizes)

@@ -5,6 +5,8 @@ ghost use Rattle.rtl_tree.specs.Trees.{tree_of};
 ghost use Rattle.rtl_tree.specs.Sorts.{IsFitting, IsWordTree};
 ghost use Rattle.rtl_value.specs.declared.state.State.{State};
 ghost use Rattle.rtl_value.specs.Values.{IsSound, value_of};
+ghost use Rattle.rtl_effect.specs.Views.{View, seen};
+ghost use Rattle.rtl_norm_value.specs.Kept.{IsWordView};
 ghost use Rattle.rtl_norm.specs.Normal.{step, finish, norm};
 
 use crate::rules;
@@ -89,11 +91,13 @@ fn reduce<W: Word>(e: &mut Expr)
 }
 
 /// Leaves the normal form of the tree. It has the tree's value in every state, and traps exactly where the tree does, if flags
-/// and pairs stand only under tests in it. No memory is taken.
+/// and pairs stand only under tests in it; where cells or bytes are unset it is seen as the tree is. No memory is taken.
 pub fn normalise<W: Word>(e: &mut Expr)
     requires { IsFitting W.BITS (tree_of e.old) }
     ensures tree { tree_of e.new ≡ norm W.BITS (tree_of e.old) }
     ensures fits { IsFitting W.BITS (tree_of e.new) }
+    ensures seen { (v : View) → IsWordView W.BITS v → IsWordTree (tree_of e.old)
+        → seen W.BITS (tree_of e.new) v ≡ seen W.BITS (tree_of e.old) v }
     ensures value { (s : State) → IsSound W.BITS s → IsWordTree (tree_of e.old)
         → value_of W.BITS (tree_of e.new) s ≡ value_of W.BITS (tree_of e.old) s }
 {

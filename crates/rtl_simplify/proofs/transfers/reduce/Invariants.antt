@@ -1,6 +1,6 @@
 use Rattle.std.proofs.Common.{◌≡◌, length, map, take, drop, ◌++◌}
 use Rattle.rtl_norm.specs.Transfers.{norm_move}
-use Rattle.rtl_simplify.proofs.transfers.normalise_effects.Given as goal
+use Rattle.rtl_simplify.proofs.transfers.reduce.Given as goal
 
 abbrev pub invariant-loop-i : goal.invariant-loop-i
 invariant-loop-i g l = record {

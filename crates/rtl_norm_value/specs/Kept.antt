@@ -1,5 +1,5 @@
 -- What the normal form keeps.
-use Rattle.std.specs.Prelude.{◌≡◌, ℕ, ◌<◌, ◌^◌, Some}
+use Rattle.std.specs.Prelude.{EachIndex, slice_index, ◌≡◌, ℕ, ◌<◌, ◌^◌, Some}
 use Rattle.rtl_word.specs.Words.{IsWordSize}
 use Rattle.rtl_tree.specs.declared.cells.Cell.{Cell}
 use Rattle.rtl_tree.specs.declared.cells.Lab.{Lab}
@@ -23,8 +23,13 @@ SeenIsKept =
     (w : ℕ) (t : Tree) (v : View) → IsWordSize w → IsWordView w v → IsFitting w t → IsWordTree t
     → seen w (norm w t) v ≡ seen w t v
 
+-- the bytes of a state are bytes, as its types say
+pub record AreBytes (s : State) : Type 0 where
+  pub memory : EachIndex s.memory (λ k. slice_index s.memory k < 256)
+  pub input : (b : ℕ) → s.input ≡ Some b → b < 256
+
 -- in every state the normal form has the value of the tree, or its first trap
 abbrev pub ValueIsKept : Type 0
 ValueIsKept =
-    (w : ℕ) (t : Tree) (s : State) → IsWordSize w → IsSound w s → IsFitting w t → IsWordTree t
+    (w : ℕ) (t : Tree) (s : State) → IsWordSize w → IsSound w s → AreBytes s → IsFitting w t → IsWordTree t
     → value_of w (norm w t) s ≡ value_of w t s

@@ -1,10 +1,10 @@
 -- The shapes of trees that the rules ask for.
-use Rattle.std.specs.Prelude.{◌≡◌, ℕ, Bool, false, ◌==◌}
+use Rattle.std.specs.Prelude.{◌≡◌, Bool, false, ◌==◌}
 use Rattle.rtl_word.specs.declared.Rel.{Rel}
 use Rattle.rtl_tree.specs.Trees.{Tree, Number, Load, Unary, Binary}
 use Rattle.rtl_tree.specs.declared.expressions.Width.TheVariants.{Byte}
 use Rattle.rtl_tree.specs.declared.expressions.UnOp.TheVariants.{Test}
-use Rattle.rtl_tree.specs.declared.expressions.BinOp.TheVariants.{Sub, And, Cmp, Pair, When}
+use Rattle.rtl_tree.specs.declared.expressions.BinOp.TheVariants.{Sub, And, Cmp, Pair}
 
 abbrev pub IsBinary : Tree → Type 0
 IsBinary (Binary o a b) = Unit {0}

@@ -6,7 +6,7 @@ ghost use Rattle.rtl_tree.specs.Sorts.{IsFitting, IsWordTree};
 ghost use Rattle.rtl_value.specs.declared.state.State.{State};
 ghost use Rattle.rtl_value.specs.Values.{IsSound, value_of};
 ghost use Rattle.rtl_effect.specs.Views.{View, seen};
-ghost use Rattle.rtl_norm_value.specs.Kept.{IsWordView};
+ghost use Rattle.rtl_norm_value.specs.Kept.{IsWordView, AreBytes};
 ghost use Rattle.rtl_norm.specs.Normal.{step, finish, norm};
 
 use crate::rules;
@@ -98,7 +98,7 @@ pub fn normalise<W: Word>(e: &mut Expr)
     ensures fits { IsFitting W.BITS (tree_of e.new) }
     ensures seen { (v : View) → IsWordView W.BITS v → IsWordTree (tree_of e.old)
         → seen W.BITS (tree_of e.new) v ≡ seen W.BITS (tree_of e.old) v }
-    ensures value { (s : State) → IsSound W.BITS s → IsWordTree (tree_of e.old)
+    ensures value { (s : State) → IsSound W.BITS s → AreBytes s → IsWordTree (tree_of e.old)
         → value_of W.BITS (tree_of e.new) s ≡ value_of W.BITS (tree_of e.old) s }
 {
     reduce::<W>(e);

@@ -2,9 +2,10 @@
 
 ghost use Rattle.std.specs.Prelude.{◌<◌, ◌^◌};
 
-use crate::normalise;
-use rtl_tree::{BinOp, Cell, Expr, NoMemory, UnOp, Width};
+use crate::{normalise, normalise_effects};
+use rtl_tree::{Assign, BinOp, Cell, Effects, Expr, NoMemory, Place, UnOp, Width};
 use rtl_word::{Rel, W16, W32, Word};
+use smallvec::SmallVec;
 use std::alloc::Global;
 
 const REGISTER: Cell = Cell::Hard(1);
@@ -47,6 +48,17 @@ fn masked_byte(alloc: Global) -> Result<Expr, NoMemory> {
     let extended = Box::new(alloc, Expr::Un(UnOp::Sxb, byte))?;
     let mut e = Expr::Bin(BinOp::And, extended, Box::new(alloc, Expr::Num(255))?);
     normalise::<W16>(&mut e);
+    Ok(e)
+}
+
+/// The normal form of `B[r1] = (sxb r1)`.
+fn byte_store(alloc: Global) -> Result<Effects, NoMemory> {
+    let value = Expr::Un(UnOp::Sxb, Box::new(alloc, Expr::Cell(REGISTER))?);
+    let to = Place::Mem(Width::Byte, Expr::Cell(REGISTER));
+    let mut list = SmallVec::new(alloc);
+    list.push(Assign { to, value })?;
+    let mut e = Effects { list };
+    normalise_effects::<W16>(&mut e);
     Ok(e)
 }
 
@@ -120,4 +132,12 @@ fn words_of_32_bits(rt: HostRuntime) {
         )
     );
     assert!(rt; is_unary(operators::<W32>(alloc, UnOp::Sxb, UnOp::Sxb), UnOp::Sxb));
+}
+
+#[test]
+fn stores_of_bytes(rt: HostRuntime) {
+    match byte_store(rt.alloc()) {
+        Ok(e) => assert!(rt; is_register(&e.list[0].value)),
+        Err(NoMemory) => assert!(rt; false),
+    }
 }

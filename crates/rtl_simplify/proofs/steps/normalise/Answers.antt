@@ -15,7 +15,7 @@ returns-clause-fits g c =
 
 pub returns-clause-value : goal.returns-clause-value
 returns-clause-value g c =
-    λ s k h. ap (λ t. value_of g.W.Word.BITS t s) c.reduce.ensures ∙ value_is_kept g.W.Word.BITS (tree_of c.args.e.now) s g.met.W.Word.sizes k c.requires h
+    λ s k b h. ap (λ t. value_of g.W.Word.BITS t s) c.reduce.ensures ∙ value_is_kept g.W.Word.BITS (tree_of c.args.e.now) s g.met.W.Word.sizes k b c.requires h
 
 pub returns-clause-seen : goal.returns-clause-seen
 returns-clause-seen g c =

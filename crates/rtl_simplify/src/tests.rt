@@ -137,7 +137,10 @@ fn words_of_32_bits(rt: HostRuntime) {
 #[test]
 fn stores_of_bytes(rt: HostRuntime) {
     match byte_store(rt.alloc()) {
-        Ok(e) => assert!(rt; is_register(&e.list[0].value)),
+        Ok(e) => {
+            let assignment = &e.list[0];
+            assert!(rt; is_register(&assignment.value));
+        }
         Err(NoMemory) => assert!(rt; false),
     }
 }

@@ -20,6 +20,7 @@ fn is_known(e: &Expr) -> bool
     matches!(e, Expr::Num(_) | Expr::NumHole(_))
 }
 
+/// The number that the tree makes, if it is an operator on numbers alone.
 fn fold_of<W: Word>(e: &Expr) -> Option<u32>
     requires { IsFitting W.BITS (tree_of e.now) }
     ensures { result ≡ folded W.BITS (tree_of e.now) }
@@ -37,7 +38,7 @@ fn fold_of<W: Word>(e: &Expr) -> Option<u32>
     }
 }
 
-/// N1.
+/// N1: an operator on numbers alone becomes its value, where it has one.
 #[tactic(auto, unfolding(rtl_norm::specs::Rules::fold_rule))]
 pub fn fold<W: Word>(e: &mut Expr) -> bool
     requires { IsFitting W.BITS (tree_of e.old) }
@@ -53,7 +54,7 @@ pub fn fold<W: Word>(e: &mut Expr) -> bool
     }
 }
 
-/// N2.
+/// N2: a number, or the hole for one, goes to the right of an operator whose operands may be swapped.
 #[tactic(auto, unfolding(rtl_norm::specs::Rules::swap_rule))]
 pub fn swap(e: &mut Expr) -> bool
     ensures done { result ≡ is_some (swap_rule (tree_of e.old)) }
@@ -78,7 +79,7 @@ fn is_ordering(relation: Rel) -> bool
     !matches!(relation, Rel::Eq | Rel::Ne)
 }
 
-/// N3.
+/// N3: a number, or the hole for one, goes to the right of an order, which is mirrored.
 #[tactic(auto, unfolding(rtl_norm::specs::Rules::mirror_rule))]
 pub fn mirror(e: &mut Expr) -> bool
     ensures done { result ≡ is_some (mirror_rule (tree_of e.old)) }
@@ -101,7 +102,7 @@ pub fn mirror(e: &mut Expr) -> bool
     }
 }
 
-/// N4.
+/// N4: a number is added, not subtracted.
 #[tactic(auto, unfolding(rtl_norm::specs::Rules::minus_rule))]
 pub fn minus<W: Word>(e: &mut Expr) -> bool
     requires { IsFitting W.BITS (tree_of e.old) }
@@ -130,7 +131,7 @@ fn takes_from_zero(e: &Expr) -> bool
     }
 }
 
-/// N5.
+/// N5: what is taken from 0 is negated.
 #[tactic(auto, unfolding(rtl_norm::specs::Rules::negate_rule))]
 pub fn negate(e: &mut Expr) -> bool
     ensures done { result ≡ is_some (negate_rule (tree_of e.old)) }
@@ -146,6 +147,7 @@ pub fn negate(e: &mut Expr) -> bool
     true
 }
 
+/// The one number in place of that of `a` and of `b`, where N6 applies.
 fn join_of<W: Word>(operator: BinOp, a: &Expr, b: &Expr) -> Option<u32>
     requires a_fits { IsFitting W.BITS (tree_of a.now) }
     requires b_fits { IsFitting W.BITS (tree_of b.now) }
@@ -160,7 +162,7 @@ fn join_of<W: Word>(operator: BinOp, a: &Expr, b: &Expr) -> Option<u32>
     }
 }
 
-/// N6.
+/// N6: two numbers that follow one another under one of `+ & |` become one.
 #[tactic(auto, unfolding(rtl_norm::specs::Rules::join_rule))]
 pub fn join<W: Word>(e: &mut Expr) -> bool
     requires { IsFitting W.BITS (tree_of e.old) }
@@ -204,7 +206,7 @@ fn has_neutral<W: Word>(e: &Expr) -> bool
     }
 }
 
-/// N7.
+/// N7: a number that changes nothing is dropped.
 #[tactic(auto, unfolding(rtl_norm::specs::Rules::neutral_rule))]
 pub fn neutral<W: Word>(e: &mut Expr) -> bool
     ensures done { result ≡ is_some (neutral_rule W.BITS (tree_of e.old)) }
@@ -217,7 +219,7 @@ pub fn neutral<W: Word>(e: &mut Expr) -> bool
     drops
 }
 
-/// N8.
+/// N8: two negations, or two complements, are dropped.
 #[tactic(auto, unfolding(rtl_norm::specs::Rules::twice_rule))]
 pub fn twice(e: &mut Expr) -> bool
     ensures done { result ≡ is_some (twice_rule (tree_of e.old)) }
@@ -246,7 +248,7 @@ pub fn is_masked(e: &Expr) -> bool
     }
 }
 
-/// N9.
+/// N9: only the low byte of what is extended counts.
 #[tactic(auto, unfolding(rtl_norm::specs::Rules::extend_rule))]
 pub fn extend(e: &mut Expr) -> bool
     ensures done { result ≡ is_some (extend_rule (tree_of e.old)) }
@@ -268,7 +270,7 @@ pub fn extend(e: &mut Expr) -> bool
     }
 }
 
-/// N10.
+/// N10: an extension that is cut off again is dropped.
 #[tactic(auto, unfolding(rtl_norm::specs::Rules::cut_rule))]
 pub fn cut(e: &mut Expr) -> bool
     ensures done { result ≡ is_some (cut_rule (tree_of e.old)) }
@@ -295,7 +297,7 @@ fn is_byte(e: &Expr) -> bool
     matches!(e, Expr::Mem(Width::Byte, _))
 }
 
-/// N11.
+/// N11: a byte is not masked.
 #[tactic(auto, unfolding(rtl_norm::specs::Rules::byte_rule))]
 pub fn byte(e: &mut Expr) -> bool
     ensures done { result ≡ is_some (byte_rule (tree_of e.old)) }
@@ -316,7 +318,7 @@ pub fn byte(e: &mut Expr) -> bool
     true
 }
 
-/// N12.
+/// N12: the test of a pair becomes a relation.
 #[tactic(auto, unfolding(rtl_norm::specs::Rules::pair_rule))]
 pub fn pair(e: &mut Expr) -> bool
     ensures done { result ≡ is_some (pair_rule (tree_of e.old)) }
@@ -351,7 +353,7 @@ fn always_goes(e: &Expr) -> bool
     }
 }
 
-/// N13.
+/// N13: a jump on a number other than 0 always goes.
 #[tactic(auto, unfolding(rtl_norm::specs::Rules::when_rule))]
 pub fn when(e: &mut Expr) -> bool
     ensures done { result ≡ is_some (when_rule (tree_of e.old)) }

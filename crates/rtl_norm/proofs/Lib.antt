@@ -1,0 +1,4 @@
+pub mod Rewrites
+pub mod Finish
+pub mod Settled
+pub mod Stored

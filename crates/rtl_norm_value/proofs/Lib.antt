@@ -1,0 +1,6 @@
+pub mod Operators
+pub mod Words
+pub mod Seen
+pub mod Value
+pub mod Sorted
+pub mod Same

@@ -1,0 +1,28 @@
+//! What the normal form keeps: of a tree what is seen in every view, and so its value in every state, and of a transfer what it
+//! does.
+//!
+//! The laws are the contracts of empty functions. They speak of trees of words, as `value` may be given them: flags and pairs
+//! stand only under tests. Their numbers are below 2 to the word's bits, and so is what is set in the view or the state.
+#![tactic(auto)]
+
+ghost use Rattle.rtl_norm_value.specs.Effect.{EffectIsKept};
+ghost use Rattle.rtl_norm_value.specs.Kept.{SeenIsKept, ValueIsKept};
+
+/// In every view, whatever is unset there, the normal form of a tree is seen as the tree is: the same word, nothing where that
+/// is unset, or the same trap.
+#[tactic(auto, using(crate::proofs::Seen::seen_is_kept))]
+pub fn normal_form_is_seen_alike()
+    ensures { SeenIsKept }
+{}
+
+/// In every state the normal form of a tree has the tree's value, or its first trap.
+#[tactic(auto, using(crate::proofs::Value::value_is_kept))]
+pub fn normal_form_has_the_value()
+    ensures { ValueIsKept }
+{}
+
+/// The normal form of a well-formed transfer does what the transfer does, in every view whose labels are places.
+#[tactic(auto, using(crate::proofs::Same::effect_is_kept))]
+pub fn normal_form_does_the_same()
+    ensures { EffectIsKept }
+{}

@@ -1,9 +1,8 @@
 -- How long the line of an instruction is.
-use Rattle.std.proofs.Common.{◌≡◌, ℕ, ◌+◌, ◌*◌, ◌≤◌, ◌<◌, pos, Bool, true, false, cond, ◌&&◌, List, [], ◌∷◌, ◌++◌, length, ap, arith, length-append}
+use Rattle.std.proofs.Common.{◌≡◌, ℕ, ◌+◌, ◌*◌, ◌≤◌, pos, Bool, true, false, cond, ◌&&◌, List, [], ◌∷◌, ◌++◌, length, arith, length-append}
 use Rattle.std.proofs.lemmas.Fmt.{length-decimal-le}
 use Rattle.std.proofs.lemmas.List.Elements.{All-get_or}
 use Rattle.std.specs.Fmt.{decimal}
-use Rattle.std.specs.List.{All}
 use Rattle.std.specs.Prelude.{codes}
 use Rattle.asm_token.specs.Tokens.{Token, Number, Spells, at_end, after_gap, one_token, spelling}
 use Rattle.asm_token.specs.Line.{is_word, space_between, after_token, line_of}

@@ -1,12 +1,12 @@
 -- How the refusals of the two files come together.
-use Rattle.std.proofs.Common.{◌≡◌, ◌≢◌, ◌⊎◌, ℕ, ◌≤◌, ◌<◌, List, length, Option, Some, None, refl, sym, subst, inl, inr, arith, Bool, true, false, bytes_eq, Decides}
+use Rattle.std.proofs.Common.{◌≡◌, ◌≢◌, ℕ, ◌≤◌, List, length, Some, None, refl, sym, subst, arith, Bool, true, false, bytes_eq, Decides}
 use Rattle.std.proofs.lemmas.Bool.Decides.{not_from_Decides}
 use Rattle.std.proofs.lemmas.Slice.Eq.{bytes_eq-Decides}
 use Rattle.vp_io.proofs.Counting.{rose_by_after}
 use Rattle.vp_io.specs.Files.{Told, OfFile, FaultCounts, CountsOnly, RoseBy}
 use Rattle.vp_io.specs.declared.answers.Which.TheVariants.{Description, Text, Assembly, Input}
 use Rattle.vp_io.specs.declared.answers.Outcome.{Outcome}
-use Rattle.vp_io.specs.declared.answers.Outcome.TheVariants.{Done, NoMemory, BadWords, FileTooLong, BadDescription, BadSource, BadAssembly, ReadFault, WriteFault, Trapped, Spent}
+use Rattle.vp_io.specs.declared.answers.Outcome.TheVariants.{Done, BadDescription, BadSource, ReadFault, WriteFault}
 use Rattle.md_rows.specs.declared.description.RawDescription.{RawDescription}
 use Rattle.vpo_top.specs.declared.source.SourceProgram.{SourceProgram}
 use Rattle.vpo_top.specs.FirstDescription.{IsDescription}

@@ -1,14 +1,12 @@
 -- The descriptions that are read so far: ten lines, with one row that sets the result register to a number, one that prints it and one
 -- that ends with it.
-use Rattle.std.specs.Prelude.{◌≡◌, ◌≢◌, ◌⊎◌, ℕ, ◌+◌, ◌-◌, ◌*◌, ◌/◌, ◌%◌, ◌^◌, ◌<◌, ◌≤◌, Bool, true, false, ◌&&◌, not, IsTrue, cond, nat_lt, nat_le, ◌==◌, List, [], ◌∷◌, ◌++◌, length, map, All, bytes_eq, codes, decimal, ℤ, pos, negsuc, flat_map, ◌||◌}
+use Rattle.std.specs.Prelude.{◌≡◌, ◌≢◌, ◌⊎◌, ℕ, ◌+◌, ◌-◌, ◌/◌, ◌%◌, ◌^◌, ◌<◌, ◌≤◌, Bool, true, false, ◌&&◌, not, IsTrue, cond, nat_le, ◌==◌, List, [], ◌∷◌, ◌++◌, length, map, All, codes, decimal, pos, negsuc, flat_map, ◌||◌}
 use Rattle.std.specs.List.{list_all}
 use Rattle.asm_token.specs.Tokens.{Token, Name, Number, Mark, IsToken, Spells, is_blank}
 use Rattle.rtl_tree.specs.Trees.{AnyNumber, Read}
 use Rattle.rtl_tree.specs.Moves.{Move, ToCell}
-use Rattle.rtl_tree.specs.declared.cells.Cell.{Cell}
 use Rattle.rtl_tree.specs.declared.cells.Cell.TheVariants.{Hard, Output, Halt}
 use Rattle.md_rows.specs.declared.description.RawDescription.{RawDescription}
-use Rattle.md_rows.specs.declared.description.Register.{Register}
 use Rattle.md_rows.specs.declared.description.Role.TheVariants.{Result}
 use Rattle.md_rows.specs.declared.row.Row.{Row}
 use Rattle.md_rows.specs.declared.row.Hole.{Hole}

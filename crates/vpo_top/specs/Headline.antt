@@ -4,7 +4,7 @@ use Rattle.std.specs.Io.KnownBytes.{Appends}
 use Rattle.behaviour.specs.Run.{Same}
 use Rattle.vp_io.specs.Contents.{AppendsPart}
 use Rattle.vp_io.specs.declared.answers.Outcome.{Outcome}
-use Rattle.vp_io.specs.declared.answers.Outcome.TheVariants.{Done, NoMemory, BadWords, FileTooLong, BadDescription, BadSource, BadAssembly, ReadFault, WriteFault, Trapped, Spent}
+use Rattle.vp_io.specs.declared.answers.Outcome.TheVariants.{Done, WriteFault}
 use Rattle.md_rows.specs.declared.description.RawDescription.{RawDescription}
 use Rattle.md_rows.specs.declared.instance.Instance.{Instance}
 use Rattle.vpo_top.specs.declared.source.SourceProgram.{SourceProgram}

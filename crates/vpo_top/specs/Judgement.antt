@@ -1,12 +1,12 @@
 -- What each outcome of a compilation says of the two files, and of the objects outside.
-use Rattle.std.specs.Prelude.{◌≡◌, ◌≢◌, ◌⊎◌, ℕ, ◌<◌, ◌≤◌, List, length, Option, Some, None, ⊤}
+use Rattle.std.specs.Prelude.{◌≡◌, ◌≢◌, ◌⊎◌, ℕ, ◌<◌, ◌≤◌, List, length, Some, None, ⊤}
 use Rattle.vp_io.specs.Counts.{Rose}
-use Rattle.vp_io.specs.Files.{Told, OfFile, FaultCounts, RoseBy}
+use Rattle.vp_io.specs.Files.{Told, FaultCounts, RoseBy}
 use Rattle.vp_io.specs.declared.answers.Reason.{Reason}
 use Rattle.vp_io.specs.declared.answers.Which.{Which}
-use Rattle.vp_io.specs.declared.answers.Which.TheVariants.{Description, Text, Assembly, Input}
+use Rattle.vp_io.specs.declared.answers.Which.TheVariants.{Description, Text}
 use Rattle.vp_io.specs.declared.answers.Outcome.{Outcome}
-use Rattle.vp_io.specs.declared.answers.Outcome.TheVariants.{Done, NoMemory, BadWords, FileTooLong, BadDescription, BadSource, BadAssembly, ReadFault, WriteFault, Trapped, Spent}
+use Rattle.vp_io.specs.declared.answers.Outcome.TheVariants.{Done, NoMemory, FileTooLong, BadDescription, BadSource, ReadFault, WriteFault}
 use Rattle.md_rows.specs.declared.description.RawDescription.{RawDescription}
 use Rattle.vpo_top.specs.declared.source.SourceProgram.{SourceProgram}
 use Rattle.vpo_top.specs.FirstDescription.{IsDescription}

@@ -1,11 +1,10 @@
 -- What a program of the described machine does.
 use Rattle.std.specs.Prelude.{ℕ, suc, true, List, [], ◌∷◌, ◌++◌, slice_get, Option, Some, None, Result, Ok, Err}
-use Rattle.behaviour.specs.Behaviour.{Trapped, Wild as WildRun, Behaviour}
+use Rattle.behaviour.specs.Behaviour.{Trapped, Wild as WildRun}
 use Rattle.behaviour.specs.Run.{Run}
 use Rattle.behaviour.specs.Steps.{Move as Turn, Goes, Stops, Fails, run_by}
 use Rattle.rtl_tree.specs.declared.cells.Cell.{Cell}
 use Rattle.rtl_tree.specs.declared.cells.Cell.TheVariants.{Pc, Input}
-use Rattle.rtl_tree.specs.Moves.{Move}
 use Rattle.rtl_value.specs.declared.state.Trap.{Trap}
 use Rattle.rtl_value.specs.declared.state.Trap.TheVariants.{Divide, Shift, Address, Align, LostFlag, Place}
 use Rattle.rtl_effect.specs.Views.{View, Stop, Traps, Wild, Gone}

@@ -3,7 +3,6 @@ use Rattle.std.specs.Prelude.{◌≡◌, ◌⊎◌, ℕ, List, [], ◌∷◌, �
 use Rattle.std.specs.Io.KnownBytes.{Appends}
 use Rattle.vp_io.specs.Contents.{AppendsPart}
 use Rattle.vp_io.specs.Counts.{Rose}
-use Rattle.vp_io.specs.declared.answers.Reason.{Reason}
 use Rattle.vp_io.specs.declared.answers.Which.{Which}
 use Rattle.vp_io.specs.declared.answers.Which.TheVariants.{Description, Text, Assembly, Input}
 use Rattle.vp_io.specs.declared.answers.Outcome.{Outcome}

@@ -1,7 +1,7 @@
 -- The words of the command line that ask for something.
 use Rattle.vpo_top.specs.declared.request.Request.{Request}
 use Rattle.vpo_top.specs.declared.request.Request.TheVariants.{Compile}
-use Rattle.std.specs.Prelude.{◌≡◌, ℕ, Bool, true, false, not, cond, ◌&&◌, ◌==◌, List, [], ◌∷◌, map, Option, Some, None, bytes_eq, codes, string_bytes, String, ⊤}
+use Rattle.std.specs.Prelude.{ℕ, Bool, false, not, cond, ◌&&◌, ◌==◌, List, [], ◌∷◌, map, Option, Some, None, bytes_eq, codes, string_bytes, String, ⊤}
 use Rattle.std.specs.declared.alloc.Global.{Global}
 
 -- the bytes of each word

@@ -1,5 +1,5 @@
 -- How the tokens of a line are separated, token by token.
-use Rattle.std.specs.Prelude.{ℕ, Bool, true, false, if◌then◌else◌, List, [], ◌∷◌, ◌++◌, Option, Some, None}
+use Rattle.std.specs.Prelude.{ℕ, if◌then◌else◌, List, [], ◌∷◌, ◌++◌, Option, Some, None}
 use Rattle.asm_token.specs.Tokens.{Token, spelling}
 use Rattle.asm_token.specs.Line.{is_word}
 use Rattle.vpo_top.specs.declared.assembly.Before.{Before}

@@ -1,4 +1,3 @@
-use Rattle.std.proofs.Common.{append_assoc}
 use Rattle.vpo_top.proofs.report.message_of.Goals as goal
 
 pub returns : goal.returns

@@ -1,5 +1,3 @@
-use Rattle.std.proofs.Common.{refl, subst}
-use Rattle.vpo_top.specs.FirstDescription.{IsDescription}
 use Rattle.vpo_top.proofs.Outcomes.{description_refused}
 use Rattle.vpo_top.proofs.top.read_machine.Goals as goal
 

@@ -18,7 +18,7 @@ pub use rtl_tree::{
     is_name, is_root, is_same, is_same_label, same, substitute, take, well_formed,
 };
 pub use rtl_value::{
-    Bytes, FlagPair, Flags, LabelAt, Labels, State, Trap, Words, apply_binary, substitution_is_setting,
-    value,
+    Bytes, FlagPair, Flags, LabelAt, Labels, State, Trap, Words, apply_binary,
+    substitution_is_setting, value,
 };
 pub use rtl_word::{Rel, W16, W32, Word};

@@ -101,7 +101,13 @@ fn leaves_are_read(rt: HostRuntime) -> Result<(), Fail> {
     compare(&rt, Ok(Expr::Cell(Cell::Hard(1))), Ok(6), Ok(6), a)?;
     compare(&rt, Ok(Expr::Cell(Cell::Temp(0))), Ok(3), Ok(3), a)?;
     compare(&rt, Ok(Expr::Cell(Cell::Pc)), Ok(5), Ok(5), a)?;
-    compare(&rt, Ok(Expr::Cell(Cell::Input)), Ok(0xffff), Ok(0xffff_ffff), a)?;
+    compare(
+        &rt,
+        Ok(Expr::Cell(Cell::Input)),
+        Ok(0xffff),
+        Ok(0xffff_ffff),
+        a,
+    )?;
     Ok(())
 }
 
@@ -111,7 +117,13 @@ fn memory_is_read_low_byte_first(rt: HostRuntime) -> Result<(), Fail> {
     let address = Err(Trap::Address);
     compare(&rt, load(a, Width::Full, 4), Ok(0x0605), Ok(0xff07_0605), a)?;
     compare(&rt, load(a, Width::Byte, 7), Ok(0xff), Ok(0xff), a)?;
-    compare(&rt, load(a, Width::Full, 3), Err(Trap::Align), Err(Trap::Align), a)?;
+    compare(
+        &rt,
+        load(a, Width::Full, 3),
+        Err(Trap::Align),
+        Err(Trap::Align),
+        a,
+    )?;
     compare(&rt, load(a, Width::Full, 6), Ok(0xff07), address, a)?;
     compare(&rt, load(a, Width::Full, 7), address, address, a)?;
     compare(&rt, load(a, Width::Byte, 8), address, address, a)?;
@@ -124,8 +136,20 @@ fn flags_and_operators_have_values(rt: HostRuntime) -> Result<(), Fail> {
     let lost = Err(Trap::LostFlag);
     compare(&rt, test_of(a, 2), Ok(1), Ok(1), a)?;
     compare(&rt, test_of(a, 3), lost, lost, a)?;
-    compare(&rt, binary(a, BinOp::Sub, 1, 3), Ok(0xfffe), Ok(0xffff_fffe), a)?;
-    compare(&rt, binary(a, BinOp::Shl, 1, 16), Err(Trap::Shift), Ok(65536), a)?;
+    compare(
+        &rt,
+        binary(a, BinOp::Sub, 1, 3),
+        Ok(0xfffe),
+        Ok(0xffff_fffe),
+        a,
+    )?;
+    compare(
+        &rt,
+        binary(a, BinOp::Shl, 1, 16),
+        Err(Trap::Shift),
+        Ok(65536),
+        a,
+    )?;
     assert_eq!(rt; apply_binary::<W16>(BinOp::Divu, 7, 0), Err(Trap::Divide));
     Ok(())
 }
@@ -134,6 +158,12 @@ fn flags_and_operators_have_values(rt: HostRuntime) -> Result<(), Fail> {
 #[test]
 fn the_first_trap_counts(rt: HostRuntime) -> Result<(), Fail> {
     let a = rt.alloc();
-    compare(&rt, division_and_read(a), Err(Trap::Divide), Err(Trap::Divide), a)?;
+    compare(
+        &rt,
+        division_and_read(a),
+        Err(Trap::Divide),
+        Err(Trap::Divide),
+        a,
+    )?;
     Ok(())
 }

@@ -15,3 +15,6 @@ pub use Rattle.rtl_effect.specs.Views
 pub use Rattle.rtl_effect.specs.Effects
 pub use Rattle.rtl_effect.specs.Agree
 pub use Rattle.rtl_effect.specs.EffectLaws
+pub use Rattle.rtl_norm.specs.Rules
+pub use Rattle.rtl_norm.specs.Normal
+pub use Rattle.rtl_norm.specs.Transfers

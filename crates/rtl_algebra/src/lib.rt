@@ -9,9 +9,13 @@
 //!   the value of the tree where the cell is set.
 //! - `rtl_effect`: what a transfer does, as a definition over views in which cells and bytes may be unset, with the laws that every pass
 //!   rests on.
+//! - `rtl_norm`: the normal form of a tree and of a transfer, as a definition, with the laws that it ends and is its own normal form.
 #![tactic(auto)]
 
 pub use rtl_effect::{effect_grows, seen_grows, seen_is_value};
+pub use rtl_norm::{
+    node_is_settled, normal_form_fits, normal_form_is_normal, normal_transfer_is_normal,
+};
 pub use rtl_tree::{
     Assign, BinOp, Cell, CellSet, Construct, Effects, Expr, Lab, Name, NameList, Names, NoMemory,
     Place, UnOp, Width, alike, are_flags_tested, copy, is_commutative, is_free, is_free_below,

@@ -1,0 +1,5 @@
+pub mod Tokens
+pub mod Length
+pub mod Line
+pub mod Law
+pub mod Seen

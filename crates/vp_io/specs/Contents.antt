@@ -1,0 +1,7 @@
+-- What is known of the bytes that a sink holds.
+use Rattle.std.specs.Prelude.{◌≡◌, ℕ, List, take, Option}
+use Rattle.std.specs.Io.KnownBytes.{Appends}
+
+-- known bytes grow by some first bytes of bs
+abbrev pub AppendsPart : Option (List ℕ) → Option (List ℕ) → List ℕ → Type 0
+AppendsPart old new bs = (n : ℕ) × Appends old new (take n bs)

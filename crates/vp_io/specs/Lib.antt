@@ -1,0 +1,4 @@
+pub mod Codes
+pub mod Counts
+pub mod Contents
+pub mod Files

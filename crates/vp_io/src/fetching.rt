@@ -5,7 +5,7 @@ ghost use Rattle.std.specs.Io.{ReadsAtMost};
 ghost use Rattle.vp_io.specs.Counts.{next_count};
 ghost use Rattle.vp_io.specs.Files.{Told, OfFile, FetchGives, FaultCounts, CountsOnly, RoseBy};
 
-use std::alloc::Global;
+use std::alloc::{AllocError, Global};
 use thiserror::Error;
 
 use crate::answers::Failed;
@@ -54,6 +54,16 @@ impl From<Failed> for FetchFault {
     }
 }
 
+impl From<AllocError> for FetchFault {
+    ghost use Rattle.vp_io.specs.declared.fetching.FetchFault.TheVariants.{NoMemory as FetchNoMemory};
+
+    ghost from_gives = { λ _ fault. fault ≡ FetchNoMemory };
+
+    fn from(_fault: AllocError) -> FetchFault {
+        FetchFault::NoMemory
+    }
+}
+
 /// The bytes that are fetched in one call.
 const PIECE: usize = 4096;
 
@@ -88,7 +98,6 @@ pub fn fetch_whole<F: Files>(
         if count as u64 > limit - text.len() as u64 {
             return Err(FetchFault::TooLong);
         }
-        text.extend_from_slice(&piece[..count])
-            .map_err(|_| FetchFault::NoMemory)?;
+        text.extend_from_slice(&piece[..count])?;
     }
 }

@@ -1,4 +1,7 @@
 pub mod Codes
-pub mod Counts
 pub mod Contents
+pub mod Counts
 pub mod Files
+pub mod MemoryFiles
+pub mod MemorySink
+pub mod MemorySource

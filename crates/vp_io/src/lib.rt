@@ -8,10 +8,20 @@
 
 pub mod answers;
 pub mod fetching;
+pub mod memory_files;
+pub mod memory_sink;
+pub mod memory_source;
 pub mod reading;
 pub mod writing;
 
+mod failing;
+mod find;
+mod piece;
+
 pub use answers::{Failed, Outcome, Reason, Which};
 pub use fetching::{FetchFault, Files, fetch_whole};
+pub use memory_files::{MemFile, MemFiles, SafeFiles};
+pub use memory_sink::{MemSink, SafeSink};
+pub use memory_source::{MemSource, SafeSource};
 pub use reading::Source;
 pub use writing::{Sink, write_whole};

@@ -1,0 +1,43 @@
+//! Which calls of an object in memory are to fail.
+
+ghost use Rattle.std.specs.Prelude.{◌≡◌, [], ◌∷◌};
+ghost use Rattle.vp_io.specs.Counts.{next_count};
+
+use crate::answers::Failed;
+
+/// The numbers of the calls that are to fail, counted from 0, and how many calls have failed.
+#[derive(Drop)]
+pub struct FailingCalls {
+    numbers: Vec<u64>,
+    calls: u64,
+    pub faults: u64,
+}
+
+impl FailingCalls {
+    pub fn new(numbers: Vec<u64>) -> FailingCalls
+        ensures { result.faults ≡ 0 }
+    {
+        FailingCalls {
+            numbers,
+            calls: 0,
+            faults: 0,
+        }
+    }
+
+    /// Counts a call, and tells whether it is to fail.
+    pub fn is_next(&mut self) -> bool
+        ensures { self.new.faults ≡ self.old.faults }
+    {
+        let call = self.calls;
+        self.calls = call.saturating_add(1);
+        self.numbers.contains(&call)
+    }
+
+    /// Counts a fault.
+    pub fn fault(&mut self) -> Failed
+        ensures { self.new.faults ≡ next_count self.old.faults }
+    {
+        self.faults = self.faults.saturating_add(1);
+        Failed
+    }
+}

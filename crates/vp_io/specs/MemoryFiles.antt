@@ -1,5 +1,6 @@
 -- What files in memory tell.
-use Rattle.std.specs.Prelude.{ℕ, List, [], Bool, Option, find, option_map, unwrap_or, bytes_eq}
+use Rattle.std.specs.Prelude.{◌≡◌, ◌≢◌, ◌≤◌, ℕ, List, [], Bool, Option, find, option_map, unwrap_or, bytes_eq}
+use Rattle.vp_io.specs.Counts.{next_count}
 use Rattle.vp_io.specs.Files.{FaultCounts}
 use Rattle.vp_io.specs.declared.memory_files.MemFile.{MemFile}
 use Rattle.vp_io.specs.declared.memory_files.MemFiles.{MemFiles}
@@ -20,6 +21,13 @@ bytes_of entries name = unwrap_or (option_map (λ file. file.bytes.items) (entry
 -- the faults of a name
 abbrev pub faults_of : List MemFile → List ℕ → ℕ
 faults_of entries name = unwrap_or (option_map (λ file. file.faults) (entry_of entries name)) 0
+
+-- a fault of this name was counted, and nothing else has changed
+pub record CountsFault (name : List ℕ) (before now : List MemFile) : Type 0 where
+  pub bytes : bytes_of now ≡ bytes_of before
+  pub later : faults_of before name ≤ faults_of now name
+  pub of_name : faults_of now name ≡ next_count (faults_of before name)
+  pub others : (other : List ℕ) → other ≢ name → faults_of now other ≡ faults_of before other
 
 -- the bytes under each name
 abbrev pub told_files : MemFiles → List ℕ → List ℕ

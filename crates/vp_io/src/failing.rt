@@ -1,6 +1,6 @@
 //! Which calls of an object in memory are to fail.
 
-ghost use Rattle.std.specs.Prelude.{◌≡◌, [], ◌∷◌};
+ghost use Rattle.std.specs.Prelude.{◌≡◌, ◌≤◌};
 ghost use Rattle.vp_io.specs.Counts.{next_count};
 
 use crate::answers::Failed;
@@ -35,7 +35,8 @@ impl FailingCalls {
 
     /// Counts a fault.
     pub fn fault(&mut self) -> Failed
-        ensures { self.new.faults ≡ next_count self.old.faults }
+        ensures one_more { self.new.faults ≡ next_count self.old.faults }
+        ensures later { self.old.faults ≤ self.new.faults }
     {
         self.faults = self.faults.saturating_add(1);
         Failed

@@ -5,7 +5,7 @@ ghost use Rattle.std.specs.Prelude.{◌≡◌, ◌<◌, Some};
 use crate::answers::Failed;
 use crate::failing::FailingCalls;
 use crate::fetching::Files;
-use crate::find::{file_piece, place_of};
+use crate::find::{count_fault, file_piece, place_of};
 
 /// A file with its name, whether a fetch of it finds nothing, and how often a fetch of it has failed.
 #[derive(Drop)]
@@ -64,8 +64,7 @@ impl Files for MemFiles {
             return Ok(0);
         };
         if self.failing.is_next() || self.entries[place].absent {
-            let faults = self.entries[place].faults;
-            self.entries[place].faults = faults.saturating_add(1);
+            count_fault(&mut self.entries, place);
             return Err(self.failing.fault());
         }
         Ok(file_piece(&self.entries[place].bytes, at, self.piece, into))

@@ -1,5 +1,5 @@
 -- Entries by name.
-use Rattle.std.proofs.Common.{◌≡◌, ◌≢◌, ℕ, zero, suc, ◌<◌, ◌≤◌, List, [], ◌∷◌, ◌++◌, length, take, drop, get_or, set, Option, Some, None, Bool, true, false, sym, ap, ◌∙◌, subst, refl, arith}
+use Rattle.std.proofs.Common.{◌≡◌, ◌≢◌, ℕ, zero, suc, ◌<◌, ◌≤◌, ◌^◌, List, [], ◌∷◌, ◌++◌, length, take, drop, get_or, set, Option, Some, None, Bool, true, false, sym, ap, ◌∙◌, subst, refl, arith}
 use Rattle.std.specs.Prelude.{find, position, option_map, unwrap_or, bytes_eq, nat_lt, if◌then◌else◌}
 use Rattle.std.specs.List.{position_or_len, slice_get}
 use Rattle.std.proofs.Math.Path.{fun_ext}
@@ -43,16 +43,16 @@ name_at es name i d e =
     subst (λ k. has_name name (get_or es k d) ≡ true) at.0 (passes_at_first (has_name name) es d (subst (λ k. k < length es) (sym at.0) at.1))
 
 -- another count leaves the bytes under each name
-bytes_kept : (es : List MemFile) (i k : ℕ) (d : MemFile) (name : List ℕ) → bytes_of (set es i (record { name = (get_or es i d).name; bytes = (get_or es i d).bytes; absent = (get_or es i d).absent; faults = k })) name ≡ bytes_of es name
-bytes_kept [] i k d name = refl
-bytes_kept (f ∷ es) zero k d name = by (has_name name f)
+bytes_kept : (es : List MemFile) (i k : ℕ) (fits : k < 2 ^ 64) (d : MemFile) (name : List ℕ) → bytes_of (set es i (record { name = (get_or es i d).name; bytes = (get_or es i d).bytes; absent = (get_or es i d).absent; faults = k; faults_fit = fits })) name ≡ bytes_of es name
+bytes_kept [] i k fits d name = refl
+bytes_kept (f ∷ es) zero k fits d name = by (has_name name f)
   where
-    by : (b : Bool) → unwrap_or (option_map (λ file. file.bytes.items) (if b then Some (record { name = f.name; bytes = f.bytes; absent = f.absent; faults = k }) else entry_of es name)) [] ≡ unwrap_or (option_map (λ file. file.bytes.items) (if b then Some f else entry_of es name)) []
+    by : (b : Bool) → unwrap_or (option_map (λ file. file.bytes.items) (if b then Some (record { name = f.name; bytes = f.bytes; absent = f.absent; faults = k; faults_fit = fits }) else entry_of es name)) [] ≡ unwrap_or (option_map (λ file. file.bytes.items) (if b then Some f else entry_of es name)) []
     by true = refl
     by false = refl
-bytes_kept (f ∷ es) (suc i) k d name = by (has_name name f) (bytes_kept es i k d name)
+bytes_kept (f ∷ es) (suc i) k fits d name = by (has_name name f) (bytes_kept es i k fits d name)
   where
-    by : (b : Bool) → bytes_of (set es i (record { name = (get_or es i d).name; bytes = (get_or es i d).bytes; absent = (get_or es i d).absent; faults = k })) name ≡ bytes_of es name → unwrap_or (option_map (λ file. file.bytes.items) (if b then Some f else entry_of (set es i (record { name = (get_or es i d).name; bytes = (get_or es i d).bytes; absent = (get_or es i d).absent; faults = k })) name)) [] ≡ unwrap_or (option_map (λ file. file.bytes.items) (if b then Some f else entry_of es name)) []
+    by : (b : Bool) → bytes_of (set es i (record { name = (get_or es i d).name; bytes = (get_or es i d).bytes; absent = (get_or es i d).absent; faults = k; faults_fit = fits })) name ≡ bytes_of es name → unwrap_or (option_map (λ file. file.bytes.items) (if b then Some f else entry_of (set es i (record { name = (get_or es i d).name; bytes = (get_or es i d).bytes; absent = (get_or es i d).absent; faults = k; faults_fit = fits })) name)) [] ≡ unwrap_or (option_map (λ file. file.bytes.items) (if b then Some f else entry_of es name)) []
     by true rest = refl
     by false rest = rest
 
@@ -66,15 +66,15 @@ other_name name other f ne is =
     not_true (has_name other f) (λ also. ne (sym ((bytes_eq-Decides f.name.items other).0 also) ∙ (bytes_eq-Decides f.name.items name).0 is))
 
 -- one more at the place of a name counts a fault of that name
-pub counts_fault : (es : List MemFile) (name : List ℕ) (i k : ℕ) (d : MemFile) → position (has_name name) es ≡ Some i → k ≡ next_count (get_or es i d).faults → (get_or es i d).faults ≤ k → CountsFault name es (set es i (record { name = (get_or es i d).name; bytes = (get_or es i d).bytes; absent = (get_or es i d).absent; faults = k }))
-counts_fault es name i k d e is le =
+pub counts_fault : (es : List MemFile) (name : List ℕ) (i k : ℕ) (fits : k < 2 ^ 64) (d : MemFile) → position (has_name name) es ≡ Some i → k ≡ next_count (get_or es i d).faults → (get_or es i d).faults ≤ k → CountsFault name es (set es i (record { name = (get_or es i d).name; bytes = (get_or es i d).bytes; absent = (get_or es i d).absent; faults = k; faults_fit = fits }))
+counts_fault es name i k fits d e is le =
     let at = place_is (has_name name) es i e in
     let named = name_at es name i d e in
-    let new : MemFile = record { name = (get_or es i d).name; bytes = (get_or es i d).bytes; absent = (get_or es i d).absent; faults = k } in
+    let new : MemFile = record { name = (get_or es i d).name; bytes = (get_or es i d).bytes; absent = (get_or es i d).absent; faults = k; faults_fit = fits } in
     let was : faults_of es name ≡ (get_or es i d).faults = ap (λ o. unwrap_or (option_map (λ file. file.faults) o) 0) (entry_at es name i d e) in
     let now : faults_of (set es i new) name ≡ k = ap (λ o. unwrap_or (option_map (λ file. file.faults) o) 0) (find-set (has_name name) es i new (sym at.0) at.1 named) in
     record {
-      bytes = fun_ext (λ other. bytes_kept es i k d other);
+      bytes = fun_ext (λ other. bytes_kept es i k fits d other);
       later = subst (λ n. n ≤ faults_of (set es i new) name) (sym was) (subst (λ n. (get_or es i d).faults ≤ n) (sym now) le);
       of_name = now ∙ is ∙ ap next_count (sym was);
       others = λ other ne. ap (λ o. unwrap_or (option_map (λ file. file.faults) o) 0) (find_past (has_name other) es i _ d (other_name name other (get_or es i d) ne named) (other_name name other (get_or es i d) ne named));

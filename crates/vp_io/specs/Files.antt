@@ -1,5 +1,5 @@
 -- What is known of files by name, and how the counts of their faults move.
-use Rattle.std.specs.Prelude.{◌≡◌, ◌≢◌, ℕ, ◌≤◌, List, length, take, drop, Option, None, Some, Result, IfOk, OnErr, ⊤}
+use Rattle.std.specs.Prelude.{◌≡◌, ◌≢◌, ℕ, ◌^◌, ◌<◌, ◌≤◌, List, length, take, drop, Option, None, Some, Result, IfOk, OnErr, ⊤}
 use Rattle.vp_io.specs.Counts.{Rose}
 
 -- the bytes of the file under each name, where the object tells them
@@ -24,6 +24,12 @@ FetchGives told name at result into = OfFile told name (λ file. IfOk result (λ
 pub record FaultCounts : Type 0 where
   pub total : ℕ
   pub of : List ℕ → ℕ
+
+-- the counts of faults and calls have 64 bits
+pub record CountsFit (faults : FaultCounts) (calls : ℕ) : Type 0 where
+  pub total : faults.total < 2 ^ 64
+  pub of : (name : List ℕ) → faults.of name < 2 ^ 64
+  pub calls_fit : calls < 2 ^ 64
 
 -- only this name was fetched: no count has fallen, and those of other names stand still
 pub record CountsOnly (name : List ℕ) (before now : FaultCounts) : Type 0 where

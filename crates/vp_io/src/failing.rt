@@ -1,6 +1,6 @@
 //! Which calls of an object in memory are to fail.
 
-ghost use Rattle.std.specs.Prelude.{◌≡◌, ◌≤◌};
+ghost use Rattle.std.specs.Prelude.{◌≡◌, ◌<◌, ◌≤◌, ◌^◌};
 ghost use Rattle.vp_io.specs.Counts.{next_count};
 
 use crate::answers::Failed;
@@ -11,6 +11,7 @@ pub struct FailingCalls {
     numbers: Vec<u64>,
     calls: u64,
     pub faults: u64,
+    ghost faults_fit: { faults < 2 ^ 64 },
 }
 
 impl FailingCalls {

@@ -3,7 +3,7 @@
 ghost use Rattle.std.specs.Prelude.{◌≡◌, ℕ, List, ◌+◌, ◌<◌, ◌≤◌, length, vec_len, IfOk, OnErr, IsErrOf};
 ghost use Rattle.std.specs.Io.{ReadsAtMost};
 ghost use Rattle.vp_io.specs.Counts.{next_count};
-ghost use Rattle.vp_io.specs.Files.{Told, OfFile, FetchGives, FaultCounts, CountsOnly, RoseBy};
+ghost use Rattle.vp_io.specs.Files.{Told, OfFile, FetchGives, FaultCounts, CountsFit, CountsOnly, RoseBy};
 
 use std::alloc::{AllocError, Global};
 use thiserror::Error;
@@ -31,6 +31,9 @@ pub trait Files {
         ensures cause { OnErr result (RoseBy (files self.old) name.now (faults self.old) (faults self.new)) }
         ensures counts { CountsOnly name.now (faults self.old) (faults self.new) }
         ensures call { calls self.new ≡ next_count (calls self.old) };
+
+    /// Each count has 64 bits.
+    ghost counts_fit: { (files : Self) → CountsFit (faults files) (calls files) };
 }
 
 /// Why a file was not fetched.

@@ -1,6 +1,6 @@
 //! Files in memory.
 
-ghost use Rattle.std.specs.Prelude.{◌≡◌, ◌<◌, Some};
+ghost use Rattle.std.specs.Prelude.{◌≡◌, ◌<◌, ◌^◌, Some};
 
 use crate::answers::Failed;
 use crate::failing::FailingCalls;
@@ -14,6 +14,7 @@ pub struct MemFile {
     pub bytes: Vec<u8>,
     pub absent: bool,
     pub faults: u64,
+    pub ghost faults_fit: { faults < 2 ^ 64 },
 }
 
 /// Files that are given in pieces, and fail at chosen calls and where they are absent.
@@ -26,6 +27,7 @@ pub struct MemFiles {
     failing: FailingCalls,
     calls: u64,
     ghost piece_is_some: { 0 < piece },
+    ghost calls_fit: { calls < 2 ^ 64 },
 }
 
 impl MemFiles {
@@ -51,12 +53,15 @@ impl MemFiles {
 
 impl Files for MemFiles {
     ghost use Rattle.vp_io.specs.MemoryFiles.{told_files, file_faults, fetches};
+    ghost use Rattle.vp_io.specs.CountsFit.{file_counts_fit};
 
     ghost files = { λ files. Some (told_files files) };
 
     ghost faults = { file_faults };
 
     ghost calls = { fetches };
+
+    ghost counts_fit = { file_counts_fit };
 
     fn fetch(&mut self, name: &str, at: u64, into: &mut [u8]) -> Result<usize, Failed> {
         self.calls = self.calls.saturating_add(1);
@@ -76,6 +81,7 @@ impl Files for MemFiles {
 pub struct SafeFiles {
     entries: Vec<MemFile>,
     calls: u64,
+    ghost calls_fit: { calls < 2 ^ 64 },
 }
 
 impl SafeFiles {
@@ -91,12 +97,15 @@ impl SafeFiles {
 
 impl Files for SafeFiles {
     ghost use Rattle.vp_io.specs.MemoryFiles.{safe_files, safe_fetches, no_faults};
+    ghost use Rattle.vp_io.specs.CountsFit.{safe_counts_fit};
 
     ghost files = { λ files. Some (safe_files files) };
 
     ghost faults = { λ _. no_faults };
 
     ghost calls = { safe_fetches };
+
+    ghost counts_fit = { safe_counts_fit };
 
     fn fetch(&mut self, name: &str, at: u64, into: &mut [u8]) -> Result<usize, Failed> {
         self.calls = self.calls.saturating_add(1);

@@ -1,6 +1,7 @@
 //! Sinks in memory.
 
 ghost use Rattle.std.specs.Prelude.{◌≡◌, ◌≤◌, ◌<◌, [], vec_len, Some, None};
+ghost use Rattle.std.proofs.Common.{lit<};
 
 use crate::answers::Failed;
 use crate::failing::FailingCalls;
@@ -51,6 +52,8 @@ impl Sink for MemSink {
 
     ghost faults = { sink_faults };
 
+    ghost counts_fit = { λ sink. sink.failing.faults_fit };
+
     fn write(&mut self, from: &[u8]) -> Result<usize, Failed> {
         let room = self.room.len() - self.used;
         let count = from.len().min(self.piece).min(room);
@@ -71,6 +74,8 @@ impl Sink for SafeSink {
     ghost written = { λ _. None };
 
     ghost faults = { λ _. 0 };
+
+    ghost counts_fit = { λ _. lit< tt };
 
     fn write(&mut self, from: &[u8]) -> Result<usize, Failed> {
         Ok(from.len())

@@ -1,6 +1,7 @@
 //! Sources in memory.
 
-ghost use Rattle.std.specs.Prelude.{◌≡◌, ◌≤◌, ◌<◌, vec_len, Some};
+ghost use Rattle.std.specs.Prelude.{◌≡◌, ◌≤◌, ◌<◌, ◌^◌, vec_len, Some};
+ghost use Rattle.std.proofs.Common.{lit<};
 
 use crate::answers::Failed;
 use crate::failing::FailingCalls;
@@ -16,6 +17,7 @@ pub struct MemSource {
     failing: FailingCalls,
     ends: u64,
     ghost taken_fits: { taken ≤ vec_len bytes },
+    ghost ends_fit: { ends < 2 ^ 64 },
     ghost piece_is_some: { 0 < piece },
 }
 
@@ -48,6 +50,8 @@ impl Source for MemSource {
 
     ghost ends = { source_ends };
 
+    ghost counts_fit = { λ source. (source.failing.faults_fit, source.ends_fit) };
+
     fn read(&mut self, into: &mut [u8]) -> Result<usize, Failed> {
         if self.failing.is_next() {
             return Err(self.failing.fault());
@@ -68,6 +72,7 @@ pub struct SafeSource {
     taken: usize,
     ends: u64,
     ghost taken_fits: { taken ≤ vec_len bytes },
+    ghost ends_fit: { ends < 2 ^ 64 },
 }
 
 impl SafeSource {
@@ -93,6 +98,8 @@ impl Source for SafeSource {
     ghost faults = { λ _. 0 };
 
     ghost ends = { safe_ends };
+
+    ghost counts_fit = { λ source. (lit< tt, source.ends_fit) };
 
     fn read(&mut self, into: &mut [u8]) -> Result<usize, Failed> {
         let count = copy_piece(&self.bytes, self.taken, into.len(), into);

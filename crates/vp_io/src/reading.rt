@@ -1,6 +1,6 @@
 //! Sources of bytes.
 
-ghost use Rattle.std.specs.Prelude.{ℕ, List, Option, ◌<◌, length};
+ghost use Rattle.std.specs.Prelude.{ℕ, List, Option, ◌^◌, ◌<◌, length};
 ghost use Rattle.std.specs.Io.{ReadsAtMost};
 ghost use Rattle.std.specs.Io.KnownBytes.{ReadConsumes};
 ghost use Rattle.vp_io.specs.Counts.{HasCause, CountsEnds};
@@ -25,4 +25,7 @@ pub trait Source {
         ensures bytes { ReadConsumes (left self.old) (left self.new) result into.new }
         ensures end { CountsEnds (ends self.old) (ends self.new) result }
         ensures cause { HasCause (faults self.old) (faults self.new) result };
+
+    /// Each count has 64 bits.
+    ghost counts_fit: { (source : Self) → (faults source < 2 ^ 64) × (ends source < 2 ^ 64) };
 }

@@ -1,6 +1,6 @@
 //! Sinks for bytes.
 
-ghost use Rattle.std.specs.Prelude.{ℕ, List, Option, ◌<◌, length, IfOk, OnOk, OnErr};
+ghost use Rattle.std.specs.Prelude.{ℕ, List, Option, ◌^◌, ◌<◌, length, IfOk, OnOk, OnErr};
 ghost use Rattle.std.specs.Io.{WritesAtMost};
 ghost use Rattle.std.specs.Io.KnownBytes.{Appends, WriteAppends};
 ghost use Rattle.vp_io.specs.Counts.{HasCause};
@@ -22,6 +22,9 @@ pub trait Sink {
         ensures some { 0 < length from.now → IfOk result (λ n. 0 < n) }
         ensures bytes { WriteAppends (written self.old) (written self.new) result from.now }
         ensures cause { HasCause (faults self.old) (faults self.new) result };
+
+    /// The count has 64 bits.
+    ghost counts_fit: { (sink : Self) → faults sink < 2 ^ 64 };
 }
 
 /// Writes all of `from`. Where that fails, some first bytes of it were written.

@@ -1,6 +1,6 @@
 //! Which calls of an object in memory are to fail.
 
-ghost use Rattle.std.specs.Prelude.{◌≡◌, ◌<◌, ◌≤◌, ◌^◌};
+ghost use Rattle.std.specs.Prelude.{◌≡◌, ◌↔◌, ◌<◌, ◌≤◌, ◌^◌, IsTrue, Contains};
 ghost use Rattle.vp_io.specs.Counts.{next_count};
 
 use crate::answers::Failed;
@@ -27,7 +27,10 @@ impl FailingCalls {
 
     /// Counts a call, and tells whether it is to fail.
     pub fn is_next(&mut self) -> bool
-        ensures { self.new.faults ≡ self.old.faults }
+        ensures fails { IsTrue result ↔ Contains self.old.numbers.items self.old.calls }
+        ensures call { self.new.calls ≡ next_count self.old.calls }
+        ensures numbers { self.new.numbers.items ≡ self.old.numbers.items }
+        ensures faults { self.new.faults ≡ self.old.faults }
     {
         let call = self.calls;
         self.calls = call.saturating_add(1);

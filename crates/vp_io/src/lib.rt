@@ -18,6 +18,9 @@ mod failing;
 mod find;
 mod piece;
 
+#[cfg(test)]
+mod tests;
+
 pub use answers::{Failed, Outcome, Reason, Which};
 pub use fetching::{FetchFault, Files, fetch_whole};
 pub use memory_files::{MemFile, MemFiles, SafeFiles};

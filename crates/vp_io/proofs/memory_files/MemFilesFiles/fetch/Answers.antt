@@ -24,4 +24,4 @@ returns-then-is_next-clause-counts c =
     let counted = rw c.deref_mut.ensures.value at fault in
     counts_only c.args.self.now.entries.items c.count_fault.new.entries c.args.self.now.entries.len c.args.name.now _ _
     (omega (arith, c.count_fault.auto.entries, ap length c.deref_mut.ensures.value, c.args.self.now.entries.ok.0))
-    (omega (arith, c.fault.ensures.later, c.is_next.ensures)) counted
+    (omega (arith, c.fault.ensures.later, c.is_next.ensures.faults)) counted

@@ -1,7 +1,7 @@
 -- Counts over several calls.
-use Rattle.std.proofs.Common.{◌≡◌, ◌≢◌, ℕ, ◌+◌, ◌-◌, ◌^◌, ◌≤◌, min, List, Option, Some, None, arith, ◌∙◌, subst}
-use Rattle.vp_io.specs.Counts.{Rose, next_count}
-use Rattle.vp_io.specs.Files.{Told, OfFile, FaultCounts, CountsOnly, RoseBy}
+use Rattle.std.proofs.Common.{ℕ, ◌≤◌, List, Some, None, arith, ◌∙◌}
+use Rattle.vp_io.specs.Counts.{Rose}
+use Rattle.vp_io.specs.Files.{Told, FaultCounts, CountsOnly, RoseBy}
 
 -- a count that has not fallen, and then has risen, has risen
 pub rose_after : (a b c : ℕ) → a ≤ b → Rose b c → Rose a c

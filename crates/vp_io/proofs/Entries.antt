@@ -1,6 +1,6 @@
 -- Entries by name.
 use Rattle.std.proofs.Common.{◌≡◌, ◌≢◌, ℕ, zero, suc, ◌<◌, ◌≤◌, ◌^◌, List, [], ◌∷◌, ◌++◌, length, take, drop, get_or, set, Option, Some, None, Bool, true, false, sym, ap, ◌∙◌, subst, refl, arith}
-use Rattle.std.specs.Prelude.{find, position, option_map, unwrap_or, bytes_eq, nat_lt, if◌then◌else◌}
+use Rattle.std.specs.Prelude.{position, option_map, unwrap_or, nat_lt, if◌then◌else◌}
 use Rattle.std.specs.List.{position_or_len, slice_get}
 use Rattle.std.proofs.Math.Path.{fun_ext}
 use Rattle.std.proofs.Math.Seq.{take-append_seam}

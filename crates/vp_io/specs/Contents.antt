@@ -1,5 +1,5 @@
 -- What is known of the bytes that a sink holds.
-use Rattle.std.specs.Prelude.{◌≡◌, ℕ, List, take, Option}
+use Rattle.std.specs.Prelude.{ℕ, List, take, Option}
 use Rattle.std.specs.Io.KnownBytes.{Appends}
 
 -- known bytes grow by some first bytes of bs

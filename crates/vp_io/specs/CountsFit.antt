@@ -1,5 +1,5 @@
 -- The counts of files in memory have 64 bits.
-use Rattle.std.proofs.Common.{◌≡◌, ℕ, ◌<◌, ◌^◌, List, Option, Some, None, option_map, lit<}
+use Rattle.std.proofs.Common.{◌<◌, ◌^◌, Option, Some, None, option_map, lit<}
 use Rattle.std.specs.Prelude.{unwrap_or}
 use Rattle.vp_io.specs.declared.memory_files.MemFile.{MemFile}
 use Rattle.vp_io.specs.declared.memory_files.MemFiles.{MemFiles}

@@ -1,5 +1,5 @@
 -- What is known of files by name, and how the counts of their faults move.
-use Rattle.std.specs.Prelude.{◌≡◌, ◌≢◌, ℕ, ◌^◌, ◌<◌, ◌≤◌, List, length, take, drop, Option, None, Some, Result, IfOk, OnErr, ⊤}
+use Rattle.std.specs.Prelude.{◌≡◌, ◌≢◌, ℕ, ◌^◌, ◌<◌, ◌≤◌, List, length, take, drop, Option, None, Some, Result, IfOk, ⊤}
 use Rattle.vp_io.specs.Counts.{Rose}
 
 -- the bytes of the file under each name, where the object tells them

@@ -5,10 +5,9 @@ ghost use Rattle.std.specs.Io.{ReadsAtMost};
 ghost use Rattle.vp_io.specs.Counts.{next_count};
 ghost use Rattle.vp_io.specs.Files.{Told, OfFile, FetchGives, FaultCounts, CountsFit, CountsOnly, RoseBy};
 
+use crate::answers::Failed;
 use std::alloc::{AllocError, Global};
 use thiserror::Error;
-
-use crate::answers::Failed;
 
 /// Files, each under its name.
 pub trait Files {
@@ -79,14 +78,10 @@ pub fn fetch_whole<F: Files>(
 ) -> Result<Vec<u8>, FetchFault>
     ensures whole { OfFile (F.files files.old) name.now (λ file. IfOk result (λ v. v.items ≡ file)) }
     ensures within { IfOk result (λ v. vec_len v ≤ limit) }
-    ensures too_long {
-        IsErrOf result FetchFault.TooLong →
-        OfFile (F.files files.old) name.now (λ file. limit < length file)
-    }
-    ensures cause {
-        IsErrOf result FetchFault.Failed →
-        RoseBy (F.files files.old) name.now (F.faults files.old) (F.faults files.new)
-    }
+    ensures too_long { IsErrOf result FetchFault.TooLong →
+        OfFile (F.files files.old) name.now (λ file. limit < length file) }
+    ensures cause { IsErrOf result FetchFault.Failed →
+        RoseBy (F.files files.old) name.now (F.faults files.old) (F.faults files.new) }
     ensures counts { CountsOnly name.now (F.faults files.old) (F.faults files.new) }
     ensures kept { F.files files.new ≡ F.files files.old }
     ensures calls { F.calls files.new ≤ F.calls files.old + limit + 2 }

@@ -17,10 +17,8 @@ pub fn place_of(entries: &[MemFile], name: &[u8]) -> Option<usize>
 /// Counts a fault of the file at `place`.
 pub fn count_fault(entries: &mut [MemFile], place: usize)
     requires { place < length entries.old }
-    ensures {
-        (name : List ℕ) → position (has_name name) entries.old ≡ Some place →
-        CountsFault name entries.old entries.new
-    }
+    ensures { (name : List ℕ) → position (has_name name) entries.old ≡ Some place →
+        CountsFault name entries.old entries.new }
 {
     let file = &mut entries[place];
     file.faults = file.faults.saturating_add(1);

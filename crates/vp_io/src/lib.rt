@@ -7,19 +7,17 @@
 #![tactic(auto)]
 
 pub mod answers;
+mod failing;
 pub mod fetching;
+mod find;
 pub mod memory_files;
 pub mod memory_sink;
 pub mod memory_source;
-pub mod reading;
-pub mod writing;
-
-mod failing;
-mod find;
 mod piece;
-
+pub mod reading;
 #[cfg(test)]
 mod tests;
+pub mod writing;
 
 pub use answers::{Failed, Outcome, Reason, Which};
 pub use fetching::{FetchFault, Files, fetch_whole};

@@ -91,7 +91,10 @@ impl SafeFiles {
         ensures files { safe_files result ≡ bytes_of files.items }
         ensures calls { safe_fetches result ≡ 0 }
     {
-        SafeFiles { entries: files, calls: 0 }
+        SafeFiles {
+            entries: files,
+            calls: 0,
+        }
     }
 }
 

@@ -1,4 +1,4 @@
-use Rattle.std.proofs.Common.{◌≡◌, ◌≢◌, ◌≤◌, ◌<◌, ◌+◌, ◌∙◌, length, take, arith, length-append, ap}
+use Rattle.std.proofs.Common.{◌≡◌, ◌≤◌, ◌+◌, ◌∙◌, length, take, arith, length-append, ap}
 use Rattle.std.proofs.lemmas.List.{length-take-le}
 use Rattle.vp_io.proofs.Bytes.{file_more}
 use Rattle.vp_io.proofs.fetching.fetch_whole.Goals as goal

@@ -1,4 +1,4 @@
-use Rattle.std.proofs.Common.{◌≤◌, arith, ◌∙◌, ap, subst}
+use Rattle.std.proofs.Common.{arith}
 use Rattle.vp_io.proofs.Entries.{counts_fault}
 use Rattle.vp_io.proofs.find.count_fault.Goals as goal
 

@@ -1,6 +1,6 @@
-use Rattle.std.proofs.Common.{◌≡◌, ◌≤◌, Some, None, position, length, arith, sym, ap, ◌∙◌, subst}
+use Rattle.std.proofs.Common.{◌≡◌, Some, None, position, length, arith, sym, ap, ◌∙◌, subst}
 use Rattle.vp_io.specs.Files.{Gives}
-use Rattle.vp_io.specs.MemoryFiles.{has_name, bytes_of, CountsFault}
+use Rattle.vp_io.specs.MemoryFiles.{has_name}
 use Rattle.vp_io.proofs.Entries.{gives_none, bytes_at, same_place, counts_only}
 use Rattle.vp_io.proofs.memory_files.MemFilesFiles.fetch.Goals as goal
 

@@ -1,6 +1,6 @@
-use Rattle.std.proofs.Common.{◌≡◌, ◌≤◌, Some, None, position, arith, sym, ap, ◌∙◌, subst}
+use Rattle.std.proofs.Common.{◌≡◌, Some, None, position, sym, ap, ◌∙◌, subst}
 use Rattle.vp_io.specs.Files.{Gives}
-use Rattle.vp_io.specs.MemoryFiles.{has_name, bytes_of, CountsFault}
+use Rattle.vp_io.specs.MemoryFiles.{has_name}
 use Rattle.vp_io.proofs.Entries.{gives_none, bytes_at, same_place}
 use Rattle.vp_io.proofs.memory_files.SafeFilesFiles.fetch.Goals as goal
 

@@ -76,7 +76,8 @@ impl Files for MemFiles {
     }
 }
 
-/// Files that never fail. A name without an entry is an empty file.
+/// Files that never fail, whether they are absent or not. A name without an entry is an empty file.
+/// Where entries share a name, the first one is the file.
 #[derive(Drop)]
 pub struct SafeFiles {
     entries: Vec<MemFile>,

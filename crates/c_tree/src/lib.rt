@@ -1,0 +1,9 @@
+//! The types of the C front end: tokens with their places, and the trees that are made of them.
+//!
+//! The crate promises nothing by itself: it has plain data, which the contracts of the lexer, the
+//! parser and the typing compare as a whole.
+#![tactic(auto)]
+
+mod token;
+
+pub use token::{At, Token, TokenKind};

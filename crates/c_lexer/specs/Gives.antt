@@ -8,7 +8,7 @@ use Rattle.c_lexer.specs.declared.rule.Rule.{Rule}
 use Rattle.c_lexer.specs.declared.rule.Fault.{Fault}
 use Rattle.c_lexer.specs.declared.rule.Fault.TheVariants as fault
 use Rattle.c_lexer.specs.Pieces.{Found}
-use Rattle.c_lexer.specs.Lexing.{Piece}
+use Rattle.c_lexer.specs.Lexing.{Piece, IsBroken}
 
 abbrev pub Finds : Result (Option TokenKind × ℕ) Trouble → Found → Type 0
 Finds (Ok x) found = found ≡ Ok x
@@ -31,3 +31,7 @@ Takes text (Err e) read = Fails e read
 abbrev pub TakesIn : List ℕ → Result (Option TokenKind × ℕ) Fault → Type 0
 TakesIn text (Ok x) = (0 < x.1) × (x.1 ≤ length text)
 TakesIn text (Err e) = Unit {0}
+
+abbrev pub IsFirstFault : List ℕ → Fault → Type 0
+IsFirstFault text fault.NoMemory = Unit {0}
+IsFirstFault text (fault.Breaks at rule) = IsBroken text at rule

@@ -5,3 +5,4 @@ pub mod Pieces
 pub mod Gives
 pub mod Places
 pub mod Lexing
+pub mod Reached

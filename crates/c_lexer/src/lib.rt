@@ -3,7 +3,9 @@
 
 mod bytes;
 mod constants;
+mod lex;
 mod line;
 mod piece;
+mod place;
 mod rule;
 mod words;

@@ -4,6 +4,10 @@
 //! parser and the typing compare as a whole.
 #![tactic(auto)]
 
+mod fault;
 mod token;
+mod types;
 
+pub use fault::CFault;
 pub use token::{At, Token, TokenKind};
+pub use types::CType;

@@ -1,2 +1,5 @@
 mod Numbers
 mod Closes
+mod Positions
+mod Reaching
+mod Unique

@@ -6,3 +6,4 @@ pub mod Gives
 pub mod Places
 pub mod Lexing
 pub mod Reached
+pub mod Outcome

@@ -27,8 +27,11 @@ fn behind_byte(at: At, byte: u8) -> At
 pub(crate) fn behind(at: At, bytes: &[u8]) -> At
     requires line { at.line + length bytes.now < 2 ^ 32 }
     requires column { at.column + length bytes.now < 2 ^ 32 }
-    requires some { (0 < at.column) }
-    ensures { result ≡ fold place_behind at bytes.now }
+    requires first { (0 < at.column) }
+    ensures exact { result ≡ fold place_behind at bytes.now }
+    ensures line { result.line ≤ at.line + length bytes.now }
+    ensures column { result.column ≤ at.column + length bytes.now }
+    ensures some { 0 < result.column }
 {
     let mut place = at;
     for byte in bytes {

@@ -11,7 +11,7 @@ pub record NoneBefore (bytes : List ℕ) (k : ℕ) : Type 0 where
   pub same : close_at bytes ≡ option_map (λ n. k + n) (close_at (drop k bytes))
 
 step : (bytes : List ℕ) (k : ℕ) → k < length bytes →
-  close_at (drop k bytes) ≡ (if is_close (drop k bytes) then Some 0 else option_map suc (close_at (drop (suc k) bytes)))
+    close_at (drop k bytes) ≡ (if is_close (drop k bytes) then Some 0 else option_map suc (close_at (drop (suc k) bytes)))
 step bytes k h = rw (drop-cons bytes k 0) refl
 
 shifted : (k : ℕ) (o : Option ℕ) → option_map (λ n. k + n) (option_map suc o) ≡ option_map (λ n. (k + 1) + n) o
@@ -21,15 +21,15 @@ shifted k (Some n) = let e : k + suc n ≡ (k + 1) + n = omega arith in ap (λ m
 pub none_more : (bytes : List ℕ) (k : ℕ) → k < length bytes → NoneBefore bytes k → is_close (drop k bytes) ≡ false → NoneBefore bytes (k + 1)
 none_more bytes k h so_far fails = record {
   same =
-    so_far.same ∙ ap (option_map (λ n. k + n)) (step bytes k h ∙ rw fails refl)
-      ∙ shifted k (close_at (drop (suc k) bytes)) ∙ rw add-one refl
+      so_far.same ∙ ap (option_map (λ n. k + n)) (step bytes k h ∙ rw fails refl)
+      ∙ shifted k (close_at (drop (suc k) bytes)) ∙ rw add-one refl;
 }
 
 pub found_at : (bytes : List ℕ) (k : ℕ) → k < length bytes → NoneBefore bytes k → is_close (drop k bytes) ≡ true → close_at bytes ≡ Some k
 found_at bytes k h so_far passes =
-  let here : close_at (drop k bytes) ≡ Some 0 = step bytes k h ∙ rw passes refl in
-  let sum : k + 0 ≡ k = omega arith in
-  so_far.same ∙ rw here (ap (λ m. Some m) sum)
+    let here : close_at (drop k bytes) ≡ Some 0 = step bytes k h ∙ rw passes refl in
+    let sum : k + 0 ≡ k = omega arith in
+    so_far.same ∙ rw here (ap (λ m. Some m) sum)
 
 pub none_first : (bytes : List ℕ) → NoneBefore bytes 0
 none_first bytes = record { same = lemma (close_at bytes) }

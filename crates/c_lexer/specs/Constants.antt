@@ -21,7 +21,7 @@ number_of base digits = min (value_of base digits) 4294967296
 -- the constant of these digits, at least one and all of the class
 abbrev pub digits_only : ByteClass → ℕ → List ℕ → Bool → Bool → Option TokenKind
 digits_only class base digits decimal unsigned =
-  if nat_lt 0 (length digits) && list_all (is_in class) digits then Some (Number (number_of base digits) decimal unsigned) else None
+    if nat_lt 0 (length digits) && list_all (is_in class) digits then Some (Number (number_of base digits) decimal unsigned) else None
 
 abbrev pub is_x : ℕ → Bool
 is_x b = (b == 120) || (b == 88)
@@ -32,20 +32,20 @@ is_u b = (b == 117) || (b == 85)
 -- 0x or 0X and hexadecimal digits, 0 and octal digits, or decimal digits
 abbrev pub unsuffixed : List ℕ → Bool → Option TokenKind
 unsuffixed text unsigned =
-  if first text == 48
-  then (if is_x (first (drop 1 text)) then digits_only Hexadecimal 16 (drop 2 text) false unsigned else digits_only Octal 8 text false unsigned)
-  else digits_only Digit 10 text true unsigned
+    if first text == 48
+    then (if is_x (first (drop 1 text)) then digits_only Hexadecimal 16 (drop 2 text) false unsigned else digits_only Octal 8 text false unsigned)
+    else digits_only Digit 10 text true unsigned
 
 -- the constant that a numeral spells, with the suffix u or U or none
 abbrev pub constant : List ℕ → Option TokenKind
 constant text =
-  if is_u (slice_index text (length text - 1)) then unsuffixed (take (length text - 1) text) true else unsuffixed text false
+    if is_u (slice_index text (length text - 1)) then unsuffixed (take (length text - 1) text) true else unsuffixed text false
 
 abbrev pub simple_escape : ℕ → Option ℕ
 simple_escape b =
-  if b == 110 then Some 10 else if b == 116 then Some 9 else if b == 114 then Some 13 else if b == 97 then Some 7
-  else if b == 98 then Some 8 else if b == 102 then Some 12 else if b == 118 then Some 11
-  else if (b == 92) || (b == 39) || (b == 34) || (b == 63) then Some b else None
+    if b == 110 then Some 10 else if b == 116 then Some 9 else if b == 114 then Some 13 else if b == 97 then Some 7
+    else if b == 98 then Some 8 else if b == 102 then Some 12 else if b == 118 then Some 11
+    else if (b == 92) || (b == 39) || (b == 34) || (b == 63) then Some b else None
 
 abbrev pub up_to_255 : ℕ → Option ℕ
 up_to_255 n = if nat_le n 255 then Some n else None

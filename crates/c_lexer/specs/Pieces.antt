@@ -29,9 +29,9 @@ run test bytes = take (prefix_len test bytes) bytes
 -- a name or a keyword
 unfoldable pub word : List ℕ → Found
 word bytes =
-  if nat_lt 63 (length bytes) then Err LongName
-  else if is_one_of keywords bytes then token (Keyword bytes) (length bytes)
-  else token (Name bytes) (length bytes)
+    if nat_lt 63 (length bytes) then Err LongName
+    else if is_one_of keywords bytes then token (Keyword bytes) (length bytes)
+    else token (Name bytes) (length bytes)
 
 abbrev pub constant_or_not : ℕ → Option TokenKind → Found
 constant_or_not n None = Err Misspelt
@@ -53,8 +53,8 @@ character_or_not n (Some value) = token (Character (signed_char value)) n
 -- a character constant, given what stands behind its first quote
 unfoldable pub character : List ℕ → Found
 character bytes =
-  let n = content_len bytes in
-  if slice_index bytes n == 39 then character_or_not (n + 2) (character_value (take n bytes)) else Err Misspelt
+    let n = content_len bytes in
+    if slice_index bytes n == 39 then character_or_not (n + 2) (character_value (take n bytes)) else Err Misspelt
 
 -- the mark of these bytes, else what is told
 abbrev pub mark_or : List ℕ → Found → Found
@@ -83,9 +83,9 @@ comment_or_not (Some n) = gap (n + 4)
 -- a comment of either kind, or a mark
 unfoldable pub slash : List ℕ → Found
 slash bytes =
-  if slice_index bytes 1 == 47 then gap (2 + prefix_len (λ b. not (is_line_feed b)) (drop 2 bytes))
-  else if slice_index bytes 1 == 42 then comment_or_not (close_at (drop 2 bytes))
-  else mark bytes
+    if slice_index bytes 1 == 47 then gap (2 + prefix_len (λ b. not (is_line_feed b)) (drop 2 bytes))
+    else if slice_index bytes 1 == 42 then comment_or_not (close_at (drop 2 bytes))
+    else mark bytes
 
 -- what stands behind these bytes, if the text begins with them
 abbrev pub behind : List ℕ → List ℕ → Option (List ℕ)
@@ -112,10 +112,10 @@ include_or_not (Some n) = token Include n
 -- the piece at the front of a text that isn't empty; fresh tells that no token stands before it on its line
 unfoldable pub piece_at : Bool → List ℕ → Found
 piece_at fresh text =
-  if is_in Blank (first text) then gap 1
-  else if is_letter (first text) then word (run (is_in NameByte) text)
-  else if is_in Digit (first text) then numeral (run (is_in NumberByte) text)
-  else if first text == 39 then character (drop 1 text)
-  else if first text == 47 then slash text
-  else if (first text == 35) && fresh then include_or_not (include_len (drop 1 text))
-  else mark text
+    if is_in Blank (first text) then gap 1
+    else if is_letter (first text) then word (run (is_in NameByte) text)
+    else if is_in Digit (first text) then numeral (run (is_in NumberByte) text)
+    else if first text == 39 then character (drop 1 text)
+    else if first text == 47 then slash text
+    else if (first text == 35) && fresh then include_or_not (include_len (drop 1 text))
+    else mark text

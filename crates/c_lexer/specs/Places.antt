@@ -8,7 +8,7 @@ use Rattle.c_lexer.specs.Pieces.{is_line_feed}
 abbrev pub place_of : List ℕ → At
 place_of before = record {
   line = 1 + count_by is_line_feed before;
-  column = 1 + prefix_len (λ b. not (is_line_feed b)) (reverse before)
+  column = 1 + prefix_len (λ b. not (is_line_feed b)) (reverse before);
 }
 
 -- the place behind one byte more

@@ -99,7 +99,11 @@ fn simple_escape(byte: u8) -> Option<u8>
 fn byte_of(number: u64) -> Option<u8>
     ensures { result ≡ up_to_255 number }
 {
-    if number <= 255 { Some(number as u8) } else { None }
+    if number <= 255 {
+        Some(number as u8)
+    } else {
+        None
+    }
 }
 
 fn octal_escape(digits: &[u8]) -> Option<u8>

@@ -12,11 +12,7 @@ use c_tree::{At, CFault, Token, TokenKind};
 use std::alloc::{AllocError, Global};
 use vp_io::Reason;
 
-fn push_token(
-    tokens: &mut Vec<Token>,
-    at: At,
-    kind: Option<TokenKind>,
-) -> Result<(), AllocError>
+fn push_token(tokens: &mut Vec<Token>, at: At, kind: Option<TokenKind>) -> Result<(), AllocError>
     ensures { OnOk result (tokens.new.items ≡ tokens.old.items ++ token_at at kind) }
 {
     if let Some(kind) = kind {

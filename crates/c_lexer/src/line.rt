@@ -55,7 +55,11 @@ impl Line {
 }
 
 /// The piece, unless it is a token on the line of an include line.
-fn taken(line: Line, token: Option<TokenKind>, length: usize) -> Result<(Option<TokenKind>, usize), Fault>
+fn taken(
+    line: Line,
+    token: Option<TokenKind>,
+    length: usize,
+) -> Result<(Option<TokenKind>, usize), Fault>
     ensures exact { (text : List ℕ) → Takes text result (Lexing.taken line text token length) }
     ensures same { IfOk result (λ x. x.1 ≡ length) }
 {

@@ -92,14 +92,21 @@ fn front(bytes: &[u8], count: usize) -> &[u8]
     ensures within { length result.now ≤ length bytes.now }
     ensures some { 0 < count → 0 < length bytes.now → 0 < length result.now }
 {
-    if count < bytes.len() { &bytes[..count] } else { bytes }
+    if count < bytes.len() {
+        &bytes[..count]
+    } else {
+        bytes
+    }
 }
 
 fn mark_token(alloc: Global, bytes: &[u8]) -> Found
     ensures exact { Finds result (token (Mark bytes.now) (length bytes.now)) }
     ensures whole { IfOk result (λ x. x.1 ≡ length bytes.now) }
 {
-    Ok((Some(TokenKind::Mark(Items::from_slice(alloc, bytes)?)), bytes.len()))
+    Ok((
+        Some(TokenKind::Mark(Items::from_slice(alloc, bytes)?)),
+        bytes.len(),
+    ))
 }
 
 #[tactic(auto, unfolding(crate::specs::Pieces::mark))]

@@ -5,9 +5,11 @@
 #![tactic(auto)]
 
 mod fault;
+pub mod syntax;
 mod token;
 mod types;
 
 pub use fault::CFault;
+pub use syntax::Syntax;
 pub use token::{At, Token, TokenKind};
 pub use types::CType;

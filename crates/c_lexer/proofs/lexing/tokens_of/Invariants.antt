@@ -8,7 +8,7 @@ invariant-loop-rest l = record {
   reached : Reached l.text l.rest l.line l.at l.tokens.items;
   line : l.at.line + length l.rest ≤ length l.text + 1;
   column : l.at.column + length l.rest ≤ length l.text + 1;
-  some : 0 < l.at.column
+  some : 0 < l.at.column;
 }
 
 abbrev pub decreases-loop-rest : goal.decreases-loop-rest

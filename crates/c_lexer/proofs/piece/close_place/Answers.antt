@@ -9,12 +9,12 @@ loop-place-init c = none_first c.args.bytes.now
 
 pub loop-place-preserved : goal.loop-place-preserved
 loop-place-preserved c =
-  none_more _ _ c.loop-place-test.true c.loop-place.invariant
+    none_more _ _ c.loop-place-test.true c.loop-place.invariant
     (sym (ap is_close (take_rest c.args.bytes.now c.loop-place.place)) ∙ sym c.is_close.ensures.exact ∙ c.if-is_close.false)
 
 pub returns-then-is_close-clause-exact : goal.returns-then-is_close-clause-exact
 returns-then-is_close-clause-exact c =
-  sym (found_at _ _ c.loop-place-test.true c.loop-place.invariant
+    sym (found_at _ _ c.loop-place-test.true c.loop-place.invariant
     (sym (ap is_close (take_rest c.args.bytes.now c.loop-place.place)) ∙ sym c.is_close.ensures.exact ∙ c.if-is_close.true))
 
 pub returns-clause-exact : goal.returns-clause-exact

@@ -9,5 +9,5 @@ invariant-loop-byte l = record {
   so_far : l.place ≡ fold place_behind l.fn.at (take l.byte-index l.bytes);
   line : l.place.line ≤ l.fn.at.line + l.byte-index;
   column : l.place.column ≤ l.fn.at.column + l.byte-index;
-  some : 0 < l.place.column
+  some : 0 < l.place.column;
 }

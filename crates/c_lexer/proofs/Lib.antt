@@ -3,3 +3,4 @@ mod Closes
 mod Positions
 mod Reaching
 mod Unique
+mod Longest

@@ -7,3 +7,4 @@ pub mod Places
 pub mod Lexing
 pub mod Reached
 pub mod Outcome
+pub mod Tokens

@@ -11,5 +11,4 @@ pub fn one_outcome()
 /// No longer front of a text spells a token than the one that is found there.
 pub fn longest_match()
     ensures { LongestMatch }
-{
-}
+{}

@@ -1,0 +1,6 @@
+mod Numbers
+mod Closes
+mod Positions
+mod Reaching
+mod Unique
+mod Longest

@@ -1,0 +1,31 @@
+//! Why a source has no tree.
+
+ghost use Rattle.std.specs.Prelude.{◌≡◌};
+ghost use Rattle.c_tree.specs.declared.fault.CFault.TheVariants.{NoMemory};
+
+use std::alloc::{AllocError, AllocFailed};
+use vp_io::Reason;
+
+/// Why a call of the front end gave nothing.
+#[derive(Debug, Drop)]
+pub enum CFault {
+    NoMemory,
+    /// The source breaks a rule.
+    Bad(Reason),
+}
+
+impl From<AllocError> for CFault {
+    ghost from_gives = { λ _ e. e ≡ NoMemory };
+
+    fn from(_e: AllocError) -> CFault {
+        CFault::NoMemory
+    }
+}
+
+impl<T: Drop> From<AllocFailed<T>> for CFault {
+    ghost from_gives = { λ _ e. e ≡ NoMemory };
+
+    fn from(_e: AllocFailed<T>) -> CFault {
+        CFault::NoMemory
+    }
+}

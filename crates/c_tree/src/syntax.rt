@@ -1,0 +1,206 @@
+//! The syntax tree of a source (C11 6.5 to 6.9). A node has the place of its first token.
+
+use crate::token::At;
+use sqlite_items::{Boxed, Items};
+
+/// An operator between two operands (C11 6.5.5 to 6.5.14).
+#[derive(Clone, Copy, PartialEq, Eq, Debug)]
+pub enum BinaryOperator {
+    LogicalOr,
+    LogicalAnd,
+    Or,
+    Xor,
+    And,
+    Equal,
+    NotEqual,
+    Less,
+    Greater,
+    LessEqual,
+    GreaterEqual,
+    ShiftLeft,
+    ShiftRight,
+    Add,
+    Subtract,
+    Multiply,
+    Divide,
+    Remainder,
+}
+
+/// An assignment operator (C11 6.5.16): plain, or with the operation that comes first.
+#[derive(Clone, Copy, PartialEq, Eq, Debug)]
+pub enum AssignOperator {
+    Plain,
+    Add,
+    Subtract,
+    Multiply,
+    Divide,
+    Remainder,
+    And,
+    Xor,
+    Or,
+    ShiftLeft,
+    ShiftRight,
+}
+
+/// An operator before its operand (C11 6.5.3.3).
+#[derive(Clone, Copy, PartialEq, Eq, Debug)]
+pub enum UnaryOperator {
+    Plus,
+    Minus,
+    Complement,
+    Not,
+}
+
+/// `++` or `--`.
+#[derive(Clone, Copy, PartialEq, Eq, Debug)]
+pub enum StepOperator {
+    Increment,
+    Decrement,
+}
+
+/// The words of a type, in their order (C11 6.7.2).
+#[derive(Clone, Copy, PartialEq, Eq, Debug)]
+pub enum TypeWords {
+    Char,
+    SignedChar,
+    CharSigned,
+    UnsignedChar,
+    CharUnsigned,
+    Int,
+    Signed,
+    SignedInt,
+    IntSigned,
+    Unsigned,
+    UnsignedInt,
+    IntUnsigned,
+}
+
+#[derive(Drop)]
+pub enum Expr {
+    Comma(At, Boxed<Expr>, Boxed<Expr>),
+    Assign(At, Boxed<Expr>, AssignOperator, Boxed<Expr>),
+    Conditional(At, Boxed<Expr>, Boxed<Expr>, Boxed<Expr>),
+    Binary(At, Boxed<Expr>, BinaryOperator, Boxed<Expr>),
+    Cast(At, TypeWords, Boxed<Expr>),
+    Unary(At, UnaryOperator, Boxed<Expr>),
+    /// A step before its operand.
+    Before(At, StepOperator, Boxed<Expr>),
+    /// A step behind its operand.
+    After(At, Boxed<Expr>, StepOperator),
+    Name(At, Items<u8>),
+    Element(At, Items<u8>, Boxed<Expr>),
+    Call(At, Items<u8>, Items<Expr>),
+    Number {
+        at: At,
+        value: u64,
+        decimal: bool,
+        unsigned: bool,
+    },
+    Character(At, i32),
+    Paren(At, Boxed<Expr>),
+}
+
+/// What stands in the brackets of a declared name.
+#[derive(Drop)]
+pub enum Size {
+    /// No brackets.
+    Scalar,
+    /// Empty brackets.
+    Absent,
+    Given(Expr),
+}
+
+#[derive(Drop)]
+pub enum Initialiser {
+    Absent,
+    Value(Expr),
+    /// The values in braces, and whether a comma stands behind the last one.
+    List(Items<Expr>, bool),
+}
+
+/// A declared name.
+#[derive(Drop)]
+pub struct Item {
+    pub at: At,
+    pub name: Items<u8>,
+    pub size: Size,
+    pub initialiser: Initialiser,
+}
+
+/// What a function gives.
+#[derive(Clone, Copy, PartialEq, Eq, Debug)]
+pub enum Return {
+    Void,
+    Value(TypeWords),
+}
+
+#[derive(Drop)]
+pub struct Parameter {
+    pub at: At,
+    pub words: TypeWords,
+    pub name: Option<Items<u8>>,
+}
+
+#[derive(Drop)]
+pub enum Parameters {
+    /// Nothing between the parentheses.
+    Empty,
+    /// The word `void`.
+    Void,
+    List(Items<Parameter>),
+}
+
+#[derive(Drop)]
+pub enum Declaration {
+    Objects(At, TypeWords, Items<Item>),
+    Function(At, Return, Items<u8>, Parameters),
+}
+
+/// What stands before the first semicolon of a `for`.
+#[derive(Drop)]
+pub enum Start {
+    Absent,
+    Value(Expr),
+    Declared(Declaration),
+}
+
+/// A statement (C11 6.8), or a declaration in a block.
+#[derive(Drop)]
+pub enum Statement {
+    Block(At, Items<Statement>),
+    Declared(Declaration),
+    /// An expression statement; without an expression the null statement.
+    Evaluate(At, Option<Expr>),
+    If(At, Expr, Boxed<Statement>, Option<Boxed<Statement>>),
+    While(At, Expr, Boxed<Statement>),
+    DoWhile(At, Boxed<Statement>, Expr),
+    For(At, Start, Option<Expr>, Option<Expr>, Boxed<Statement>),
+    /// The statements of a switch's block.
+    Switch(At, Expr, Items<Statement>),
+    Case(At, Expr, Boxed<Statement>),
+    Default(At, Boxed<Statement>),
+    Break(At),
+    Continue(At),
+    Return(At, Option<Expr>),
+}
+
+/// A part of a program (C11 6.9).
+#[derive(Drop)]
+pub enum External {
+    /// The line `#include <stdio.h>`.
+    Include(At),
+    Declared(Declaration),
+    Defined {
+        at: At,
+        gives: Return,
+        name: Items<u8>,
+        parameters: Parameters,
+        body: Items<Statement>,
+    },
+}
+
+/// A whole source.
+#[derive(Drop)]
+pub struct Syntax {
+    pub parts: Items<External>,
+}

@@ -1,0 +1,133 @@
+//! The typed tree of a source: names are resolved, and conversions are nodes.
+//!
+//! An object is named by its kind and its number, a function by its number in the tree.
+
+use crate::syntax::{BinaryOperator, StepOperator, UnaryOperator};
+use crate::token::At;
+use crate::types::CType;
+use sqlite_items::{Boxed, Items};
+
+/// An object or a parameter. A scalar has no length.
+#[derive(Debug, Drop)]
+pub struct Object {
+    pub name: Items<u8>,
+    pub element: CType,
+    pub length: Option<u32>,
+    pub at: At,
+}
+
+/// An object of the file. `init` has the listed values, and what isn't listed is 0.
+#[derive(Debug, Drop)]
+pub struct Static {
+    pub object: Object,
+    pub init: Items<u32>,
+}
+
+/// Which object a name stands for.
+#[derive(Clone, Copy, PartialEq, Eq, Debug)]
+pub enum Variable {
+    /// By the place in the tree's statics.
+    Static(u32),
+    /// By the place in the function's parameters.
+    Parameter(u32),
+    /// By the place in the function's locals.
+    Local(u32),
+}
+
+/// Which function is called.
+#[derive(Clone, Copy, PartialEq, Eq, Debug)]
+pub enum Callee {
+    /// By the place in the tree's functions.
+    Defined(u32),
+    Getchar,
+    Putchar,
+}
+
+/// What a compound assignment computes of the left side's value and the right value.
+#[derive(Clone, Copy, PartialEq, Eq, Debug)]
+pub enum Operation {
+    Operator(BinaryOperator),
+    /// A call of the function with this place in the tree's functions, with both values converted
+    /// to its parameters' types.
+    Helper(u32),
+}
+
+/// The type of an expression, and the place of its first token.
+#[derive(Clone, Copy, PartialEq, Eq, Debug)]
+pub struct Head {
+    pub of: CType,
+    pub at: At,
+}
+
+/// An expression with its operands in order.
+#[derive(Drop)]
+pub enum TypedExpr {
+    Comma(Head, Boxed<TypedExpr>, Boxed<TypedExpr>),
+    Assign(Head, Boxed<TypedExpr>, Boxed<TypedExpr>),
+    Compound(Head, Boxed<TypedExpr>, Operation, Boxed<TypedExpr>),
+    Conditional(Head, Boxed<TypedExpr>, Boxed<TypedExpr>, Boxed<TypedExpr>),
+    Binary(Head, Boxed<TypedExpr>, BinaryOperator, Boxed<TypedExpr>),
+    Unary(Head, UnaryOperator, Boxed<TypedExpr>),
+    /// A step before its operand.
+    Before(Head, StepOperator, Boxed<TypedExpr>),
+    /// A step behind its operand.
+    After(Head, Boxed<TypedExpr>, StepOperator),
+    /// A value of the expression's type, as a word of the machine.
+    Constant(Head, u32),
+    Object(Head, Variable),
+    Element(Head, Variable, Boxed<TypedExpr>),
+    Call(Head, Callee, Items<TypedExpr>),
+    /// A conversion of the operand to the expression's type.
+    Convert(Head, Boxed<TypedExpr>),
+}
+
+/// The initialiser of a local object.
+#[derive(Drop)]
+pub enum LocalInit {
+    /// None: the object is unset.
+    Absent,
+    Value(TypedExpr),
+    /// The listed values; what isn't listed is 0.
+    List(Items<TypedExpr>),
+}
+
+/// A statement, or the declaration of a local object.
+#[derive(Drop)]
+pub enum Stat {
+    Block(At, Items<Stat>),
+    /// A local object, by its place in the function's locals.
+    Declare(At, u32, LocalInit),
+    /// An expression statement; without an expression the null statement.
+    Evaluate(At, Option<TypedExpr>),
+    If(At, TypedExpr, Boxed<Stat>, Option<Boxed<Stat>>),
+    While(At, TypedExpr, Boxed<Stat>),
+    DoWhile(At, Boxed<Stat>, TypedExpr),
+    /// The first list has what stands before the first semicolon: declarations of objects, an
+    /// expression statement, or nothing.
+    For(At, Items<Stat>, Option<TypedExpr>, Option<TypedExpr>, Boxed<Stat>),
+    Switch(At, TypedExpr, Items<Stat>),
+    /// A case, with its value converted to the type of the switch.
+    Case(At, u32, Boxed<Stat>),
+    Default(At, Boxed<Stat>),
+    Break(At),
+    Continue(At),
+    Return(At, Option<TypedExpr>),
+}
+
+/// A function with a body, which is a block.
+#[derive(Drop)]
+pub struct Function {
+    pub name: Items<u8>,
+    pub result: CType,
+    pub params: Items<Object>,
+    pub locals: Items<Object>,
+    pub body: Stat,
+    pub at: At,
+}
+
+/// The statics and the functions of a source, each in the order of its first declaration.
+#[derive(Drop)]
+pub struct Typed {
+    pub statics: Items<Static>,
+    pub functions: Items<Function>,
+}

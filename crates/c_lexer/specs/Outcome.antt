@@ -9,14 +9,14 @@ use Rattle.c_lexer.specs.declared.rule.Rule.{Rule}
 use Rattle.c_lexer.specs.declared.rule.Rule.TheVariants.{Unknown, Misspelt, OpenComment, LongName}
 use Rattle.c_lexer.specs.Lexing.{AreTokens, IsBroken}
 
-abbrev pub number_of : Rule → ℕ
-number_of Unknown = 1
-number_of Misspelt = 2
-number_of OpenComment = 3
-number_of LongName = 4
+abbrev pub rule_number : Rule → ℕ
+rule_number Unknown = 1
+rule_number Misspelt = 2
+rule_number OpenComment = 3
+rule_number LongName = 4
 
 abbrev pub reason_of : At → Rule → Reason
-reason_of at rule = record { line = at.line; column = at.column; rule = number_of rule; detail = 0 }
+reason_of at rule = record { line = at.line; column = at.column; rule = rule_number rule; detail = 0 }
 
 -- a reason tells the first fault of a text
 pub record IsReason (text : List ℕ) (reason : Reason) : Type 0 where

@@ -3,7 +3,7 @@
 ghost use Rattle.std.specs.Prelude.{◌≡◌, ◌+◌, ◌<◌, ◌≤◌, ◌^◌, ◌++◌, OnOk, IfOk, IfErr, length};
 ghost use Rattle.c_lexer.specs.Lexing.{token_at, AreTokens};
 ghost use Rattle.c_lexer.specs.Gives.{IsFirstFault};
-ghost use Rattle.c_lexer.specs.Outcome.{Refuses, reason_of, number_of};
+ghost use Rattle.c_lexer.specs.Outcome.{Refuses, reason_of, rule_number};
 
 use crate::line::{Line, next_piece};
 use crate::place::behind;
@@ -44,7 +44,7 @@ fn tokens_of(alloc: Global, text: &[u8]) -> Result<Vec<Token>, Fault>
 
 /// The number that is printed for a rule.
 fn number(rule: Rule) -> u8
-    ensures { result ≡ number_of rule }
+    ensures { result ≡ rule_number rule }
 {
     match rule {
         Rule::Unknown => 1,
@@ -65,8 +65,8 @@ fn reason(at: At, rule: Rule) -> Reason
     }
 }
 
-/// The tokens of a source (C11 6.4), of which the last is the end. A source without tokens is
-/// refused at the first byte of what breaks the first rule.
+/// The tokens of a source (C11 6.4), of which the last is the end. A source that breaks a rule is
+/// refused at the first byte of what breaks the first one.
 pub fn lex(alloc: Global, text: &[u8]) -> Result<Vec<Token>, CFault>
     requires { length text.now ≤ 4294967294 }
     ensures found { IfOk result (λ tokens. AreTokens text.now tokens.items) }

@@ -3,8 +3,9 @@
 //!
 //! `lex` gives the tokens of a source with their places, and the end of the text as a last token;
 //! or it tells the first rule that the source breaks, at the first byte of what breaks it. The
-//! source is spelled by pieces alone, each of which is a blank, a comment or a token and as long
-//! as such a piece can be, and no source has two lists of tokens or a list and a fault.
+//! source is spelled by pieces alone, each of which is a blank, a comment or a token; a name, a
+//! number and a mark are as long as they can be. No source has two lists of tokens, or a list and
+//! a fault.
 #![tactic(auto)]
 
 mod bytes;

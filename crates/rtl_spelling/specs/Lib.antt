@@ -1,0 +1,6 @@
+pub mod Tokens
+pub mod Holes
+pub mod Spelling
+pub mod Faults
+pub mod Printing
+pub mod Contract

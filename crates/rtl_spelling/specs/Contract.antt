@@ -1,5 +1,5 @@
 -- What a reader of texts owes.
-use Rattle.std.specs.Prelude.{ℕ, ◌≡◌, ◌⊎◌, List, ◌∷◌, ◌++◌, length, map, Some}
+use Rattle.std.specs.Prelude.{ℕ, ◌≡◌, List, length, map, Some}
 use Rattle.rtl_tree.specs.Moves.{Move}
 use Rattle.rtl_tree.specs.WellFormed.{IsWellFormed}
 use Rattle.rtl_spelling.specs.Tokens.{Token, spelled, Lexes}

@@ -1,7 +1,7 @@
 -- Holes that a reader may fill.
-use Rattle.std.specs.Prelude.{ℕ, ◌≡◌, Bool, if◌then◌else◌, List, [], ◌∷◌, Option, Some, None}
+use Rattle.std.specs.Prelude.{ℕ, if◌then◌else◌, List, [], ◌∷◌, Option, Some, None}
 use Rattle.std.specs.Str.{bytes_eq}
-use Rattle.std.proofs.Common.{refl, ap}
+use Rattle.std.proofs.Common.{refl}
 use Rattle.std.specs.Coded.{Coded, coded_list, coded_ℕ, code_by, coded×}
 use Rattle.rtl_tree.specs.Trees.{Tree}
 use Rattle.rtl_tree.specs.Codes.{tree_code}

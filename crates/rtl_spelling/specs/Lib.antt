@@ -4,3 +4,5 @@ pub mod Spelling
 pub mod Faults
 pub mod Printing
 pub mod Contract
+pub mod Senses
+pub mod Reading

@@ -6,7 +6,6 @@ use Rattle.rtl_tree.specs.declared.cells.Cell.{Cell}
 use Rattle.rtl_tree.specs.declared.cells.Cell.TheVariants.{Hard, Flag, Hole, Temp}
 use Rattle.rtl_tree.specs.declared.cells.Lab.{Lab}
 use Rattle.rtl_tree.specs.declared.cells.Lab.TheVariants.{Block, Function}
-use Rattle.rtl_tree.specs.declared.expressions.Width.{Width}
 use Rattle.rtl_tree.specs.declared.expressions.UnOp.TheVariants.{Test}
 use Rattle.rtl_tree.specs.Trees.{Tree, Number as NumberTree, Symbol, CodeLabel, Read, Load, Unary, Binary, NoPair}
 use Rattle.rtl_tree.specs.Moves.{Goal, ToCell, ToMemory, Move}

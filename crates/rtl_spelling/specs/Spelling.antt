@@ -136,17 +136,17 @@ pub data Spells (c : Context) : ℕ → Tree → List Placed → Type 0 where
   unary :
       (d : ℕ) (o : UnOp) (a : Tree) (ps : List Placed) → StandsBefore o → Spells c (suc d) a ps
       → Spells c d (Unary o a)
-        (starts d (Mark sign.LeftParen) ∷ inner (Word (unary_word o)) ∷ mark sign.Space ∷ (ps ++ mark sign.RightParen ∷ []))
+      (starts d (Mark sign.LeftParen) ∷ inner (Word (unary_word o)) ∷ mark sign.Space ∷ (ps ++ mark sign.RightParen ∷ []))
   binary :
       (d : ℕ) (o : BinOp) (a b : Tree) (ps qs : List Placed) → Spells c (suc d) a ps → Spells c (suc d) b qs
       → Spells c d (Binary o a b)
-        (starts d (Mark sign.LeftParen)
-         ∷ (ps ++ mark sign.Space ∷ inner (operator_token o) ∷ mark sign.Space ∷ (qs ++ mark sign.RightParen ∷ [])))
+      (starts d (Mark sign.LeftParen)
+      ∷ (ps ++ mark sign.Space ∷ inner (operator_token o) ∷ mark sign.Space ∷ (qs ++ mark sign.RightParen ∷ [])))
   test :
       (d : ℕ) (r : Rel) (n : ℕ) → n < 8
       → Spells c d (Unary (Test r) (Read (Flag n)))
-        (starts d (Mark sign.LeftParen)
-         ∷ (begun (suc d) (cell_tokens (Flag n)) ++ mark sign.Space ∷ inner (Word (relation_word r)) ∷ mark sign.RightParen ∷ []))
+      (starts d (Mark sign.LeftParen)
+      ∷ (begun (suc d) (cell_tokens (Flag n)) ++ mark sign.Space ∷ inner (Word (relation_word r)) ∷ mark sign.RightParen ∷ []))
   hole : (d : ℕ) (name : List ℕ) (leaf : Tree) → leaf_named c.holes name ≡ Some leaf → Spells c d leaf (begun d (hole_tokens name))
 
 -- what an assignment says; no goal, where a hole's leaf stands as the place and can't be one

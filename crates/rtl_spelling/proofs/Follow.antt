@@ -1,5 +1,5 @@
 -- The reading goes the way of the automaton.
-use Rattle.std.proofs.Common.{◌≡◌, ℕ, zero, suc, ◌+◌, ◌≤◌, ◌<◌, Bool, true, false, nat_le, cond, List, [], ◌∷◌, ◌++◌, length, Option, Some, None, Ok, Err, refl, sym, ap, subst, ◌∙◌, append_assoc, arith, inl, inr}
+use Rattle.std.proofs.Common.{◌≡◌, ℕ, zero, suc, ◌+◌, ◌≤◌, ◌<◌, Bool, true, false, nat_le, cond, if◌then◌else◌, List, [], ◌∷◌, ◌++◌, length, Option, Some, None, Ok, Err, refl, sym, ap, subst, ◌∙◌, append_assoc, arith, inl, inr}
 use Rattle.std.proofs.lemmas.Bool.{cases_Bool, le-leb, lt-leb}
 use Rattle.rtl_word.specs.declared.Rel.{Rel}
 use Rattle.rtl_tree.specs.declared.cells.Cell.{Cell}
@@ -269,3 +269,156 @@ module _ (c : Context) (most : ℕ) where
 
   pub tree_follows : (f d : ℕ) → f + d ≡ suc most → Reads d (tree c f)
   tree_follows f d e = record { is = tree_is f d e }
+
+  -- ---- places and values
+
+  place_on_is : (R : Reader) → 1 ≤ most → Reads 2 R → (s : Stack) (t : Token) (ts : List Token) (v : Sense)
+      → followed most (place_step c v) (t ∷ ts) (λ new. follow c most (new ++ s) ts) ≡ (place_on c R (t ∷ ts) v >>= onward c most s)
+  place_on_is R h r s t ts (sense.Cell n) = rw (stands_yes 1 h) refl
+  place_on_is R h r s t ts (sense.Bank b) =
+      rw (stands_yes 1 h) (index_is b s ts (λ x us. follow c most s us) (λ _ us. refl)
+      ∙ sym (bind_assoc (index b ts) (λ x us. gives (Some (ToCell x)) us) (onward c most s)))
+  place_on_is R h r s t ts (sense.Memory w) =
+      rw (stands_yes 1 h) (address_is 2 R r s ts (λ x us. follow c most s us) (λ _ us. refl)
+      ∙ sym (bind_assoc (address R ts) (λ a us. gives (Some (ToMemory w a)) us) (onward c most s)))
+  place_on_is R h r s t ts (sense.Sign sign.Less) =
+      hole_is (has_holes c.holes) 1 (stands_yes 1 h) s t ts (λ x us. follow c most s us) (λ _ us. refl)
+      ∙ sym (bind_assoc (hole c (t ∷ ts)) (λ x us. gives (goal_of_leaf x) us) (onward c most s))
+  place_on_is R h r s t ts _ = refl
+
+  place_is : (R : Reader) → 1 ≤ most → Reads 2 R → (s : Stack) (ts : List Token)
+      → follow c most (Place ∷ s) ts ≡ (place c R ts >>= onward c most s)
+  place_is R h r s [] = refl
+  place_is R h r s (t ∷ ts) = place_on_is R h r s t ts (sense_of c t)
+
+  place_follows : (R : Reader) → 1 ≤ most → Reads 2 R → Follows c most Place (place c R)
+  place_follows R h r = record { is = place_is R h r }
+
+  value_tree : (S : Reader) → Reads 1 S → (s : Stack) (t : Token) (ts : List Token) (v : Sense) → sense_of c t ≡ v
+      → followed most (tree_step c 1 v) (t ∷ ts) (λ new. follow c most (new ++ s) ts) ≡ (S (t ∷ ts) >>= onward c most s)
+  value_tree S r s t ts v e =
+      sym (ap (λ v. followed most (tree_step c 1 v) (t ∷ ts) (λ new. follow c most (new ++ s) ts)) e) ∙ r.is s (t ∷ ts)
+
+  value_on_is : (S : Reader) → Reads 1 S → (s : Stack) (t : Token) (ts : List Token) (v : Sense) → sense_of c t ≡ v
+      → followed most (value_step c v) (t ∷ ts) (λ new. follow c most (new ++ s) ts) ≡ (value_on S (t ∷ ts) v >>= onward c most s)
+  value_on_is S r s t ts sense.Lost e = refl
+  value_on_is S r s t ts v e = value_tree S r s t ts v e
+
+  value_is : (S : Reader) → Reads 1 S → (s : Stack) (ts : List Token) → follow c most (Value ∷ s) ts ≡ (value c S ts >>= onward c most s)
+  value_is S r s [] = r.is s []
+  value_is S r s (t ∷ ts) = value_on_is S r s t ts (sense_of c t) refl
+
+  value_follows : (S : Reader) → Reads 1 S → Follows c most Value (value c S)
+  value_follows S r = record { is = value_is S r }
+
+-- ---- a whole transfer
+
+module _ (c : Context) (f : ℕ) where
+  address_reads : Follows c (suc f) (ATree 2) (tree c f)
+  address_reads = tree_follows c (suc f) f 2 (omega arith)
+
+  value_reads : Follows c (suc f) (ATree 1) (tree c (suc f))
+  value_reads = tree_follows c (suc f) (suc f) 1 (omega arith)
+
+  pub move_is : (s : Stack) (ts : List Token) (g : Next Said)
+      → ((m : Said) (us : List Token) → follow c (suc f) s us ≡ g m us)
+      → follow c (suc f) (Place ∷ Exactly sign.Space ∷ Exactly sign.Equals ∷ Exactly sign.Space ∷ Value ∷ s) ts ≡ (move c f ts >>= g)
+  move_is s ts g each =
+      and_part c (suc f) (place c (tree c f)) _ (place_follows c (suc f) (tree c f) (omega arith) address_reads) _ ts g (λ p us.
+      and_part c (suc f) (expect sign.Space) _ (exactly c (suc f) sign.Space) _ us g (λ _ us.
+      and_part c (suc f) (expect sign.Equals) _ (exactly c (suc f) sign.Equals) _ us g (λ _ us.
+      and_part c (suc f) (expect sign.Space) _ (exactly c (suc f) sign.Space) _ us g (λ _ us.
+      and_part c (suc f) (value c (tree c (suc f))) (λ t us. gives (record { to = p; value = t }) us) (value_follows c (suc f) (tree c (suc f)) value_reads) s us g (λ t us. each _ us)))))
+
+-- at most so many tokens are left
+abbrev AtMost : ℕ → Read (Unit {0}) → Type 0
+AtMost n (Ok x) = length x.1 ≤ n
+AtMost n (Err e) = Unit {0}
+
+longer : (m n : ℕ) (r : Read (Unit {0})) → m ≤ n → AtMost m r → AtMost n r
+longer m n (Ok x) le h = omega (arith, le, h)
+longer m n (Err e) le h = tt
+
+module _ (c : Context) (most : ℕ) where
+  followed_most : (b : Bool) (n : ℕ) (ts : List Token) (r : Read (Unit {0})) → AtMost n r → AtMost n (cond b r (deep ts))
+  followed_most true n ts r h = h
+  followed_most false n ts r h = tt
+
+  step_most : (o : Step) (n : ℕ) (s : Stack) (us ts : List Token) → ((s : Stack) → AtMost n (follow c most s ts))
+      → AtMost n (followed most o us (λ new. follow c most (new ++ s) ts))
+  step_most None n s us ts h = tt
+  step_most (Some y) n s us ts h = followed_most (stands most y.0) n us _ (h (y.1 ++ s))
+
+  at_most : (s : Stack) (ts : List Token) → AtMost (length ts) (follow c most s ts)
+  at_most [] ts = omega arith
+  at_most (x ∷ s) [] = tt
+  at_most (x ∷ s) (t ∷ ts) =
+      longer (length ts) (suc (length ts)) _ (omega arith) (step_most (step c x t) (length ts) s (t ∷ ts) ts (λ s. at_most s ts))
+
+  pub fewer : (x : Symbol) (s : Stack) (ts us : List Token) → follow c most (x ∷ s) ts ≡ gives tt us → suc (length us) ≤ length ts
+  fewer x s [] us e = absurd cc
+  fewer x s (t ∷ ts) us e =
+      let k : AtMost (length ts) (gives tt us) =
+            subst (λ r. AtMost (length ts) r) e (step_most (step c x t) (length ts) s (t ∷ ts) ts (λ s. at_most s ts)) in
+      omega (arith, k)
+
+module _ (c : Context) (f : ℕ) where
+  move_fewer : (ts us : List Token) (m : Said) → move c f ts ≡ gives m us → suc (length us) ≤ length ts
+  move_fewer ts us m e =
+      fewer c (suc f) Place _ ts us
+      (move_is c f [] ts (λ m us. gives tt us) (λ _ _. refl) ∙ ap (λ (r : Read Said). r >>= λ m us. gives tt us) e)
+
+  -- what is read behind an assignment
+  abbrev behind : ℕ → Said → List Token → Read (List Said)
+  behind n m us =
+      if is_sign sign.End (head_of us) then gives (m ∷ []) (rest_of us)
+      else (expect sign.Semicolon us >>= λ _ us. expect sign.Space us >>= λ _ us. moves c f n us >>= λ ms us. gives (m ∷ ms) us)
+
+  abbrev Whole : ℕ → Type 0
+  Whole n = (ts : List Token) → length ts ≤ n → follow c (suc f) start ts ≡ (moves c f n ts >>= onward c (suc f) [])
+
+  space_then : (b : Bool) (n : ℕ) (m : Said) → Whole n → (t : Token) (us : List Token) → length us ≤ n
+      → followed (suc f) (on_test b [] None) (t ∷ us) (λ new. follow c (suc f) (new ++ start) us)
+        ≡ ((cond b (gives {A = Unit {0}} tt us) (wrong (t ∷ us)) >>= λ _ us. moves c f n us >>= λ ms us. gives (m ∷ ms) us) >>= onward c (suc f) [])
+  space_then true n m whole t us le = whole us le ∙ sym (bind_assoc (moves c f n us) (λ ms us. gives (m ∷ ms) us) (onward c (suc f) []))
+  space_then false n m whole t us le = refl
+
+  next_is : (n : ℕ) (m : Said) → Whole n → (us : List Token) → length us ≤ n
+      → follow c (suc f) (Exactly sign.Space ∷ start) us
+        ≡ ((expect sign.Space us >>= λ _ us. moves c f n us >>= λ ms us. gives (m ∷ ms) us) >>= onward c (suc f) [])
+  next_is n m whole [] le = refl
+  next_is n m whole (t ∷ us) le = space_then (is_sign sign.Space t) n m whole t us (omega (arith, le))
+
+  semicolon_then : (b : Bool) (n : ℕ) (m : Said) → Whole n → (t : Token) (us : List Token) → length us ≤ n
+      → followed (suc f) (on_test b (Exactly sign.Space ∷ start) None) (t ∷ us) (λ new. follow c (suc f) (new ++ []) us)
+        ≡ ((cond b (gives {A = Unit {0}} tt us) (wrong (t ∷ us)) >>= λ _ us. expect sign.Space us >>= λ _ us. moves c f n us >>= λ ms us. gives (m ∷ ms) us)
+           >>= onward c (suc f) [])
+  semicolon_then true n m whole t us le = next_is n m whole us le
+  semicolon_then false n m whole t us le = refl
+
+  behind_on : (b : Bool) (n : ℕ) (m : Said) → Whole n → (t : Token) (us : List Token) → length us ≤ n
+      → followed (suc f) (on_test b [] (on_test (is_sign sign.Semicolon t) (Exactly sign.Space ∷ start) None)) (t ∷ us) (λ new. follow c (suc f) (new ++ []) us)
+        ≡ (cond b (gives (m ∷ []) us) (expect sign.Semicolon (t ∷ us) >>= λ _ us. expect sign.Space us >>= λ _ us. moves c f n us >>= λ ms us. gives (m ∷ ms) us)
+           >>= onward c (suc f) [])
+  behind_on true n m whole t us le = refl
+  behind_on false n m whole t us le = semicolon_then (is_sign sign.Semicolon t) n m whole t us le
+
+  behind_is : (n : ℕ) (m : Said) → Whole n → (us : List Token) → length us ≤ n
+      → follow c (suc f) (After ∷ []) us ≡ (behind n m us >>= onward c (suc f) [])
+  behind_is n m whole [] le = refl
+  behind_is n m whole (t ∷ us) le = behind_on (is_sign sign.End t) n m whole t us (omega (arith, le))
+
+  moves_from : (n : ℕ) → Whole n → (ts : List Token) → length ts ≤ suc n → (r : Read Said) → move c f ts ≡ r
+      → (r >>= onward c (suc f) (After ∷ [])) ≡ ((r >>= behind n) >>= onward c (suc f) [])
+  moves_from n whole ts le (Ok x) e = behind_is n x.0 whole x.1 (omega (arith, le, move_fewer ts x.1 x.0 e))
+  moves_from n whole ts le (Err e) is = refl
+
+  pub moves_is : (n : ℕ) → Whole n
+  moves_is zero [] le = refl
+  moves_is zero (t ∷ ts) le = absurd (omega (arith, le))
+  moves_is (suc n) ts le =
+      move_is c f (After ∷ []) ts (onward c (suc f) (After ∷ [])) (λ _ _. refl) ∙ moves_from n (moves_is n) ts le (move c f ts) refl
+
+  -- the reading goes the way of the automaton
+  pub transfer_is : (ts : List Token) → follow c (suc f) start ts ≡ (transfer c f ts >>= λ _ us. gives tt us)
+  transfer_is ts = moves_is (length ts) ts (omega arith)

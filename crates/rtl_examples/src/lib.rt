@@ -1,0 +1,2 @@
+//! Texts of transfers brought to normal form.
+#![tactic(auto)]

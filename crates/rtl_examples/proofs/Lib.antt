@@ -1,1 +1,3 @@
+pub mod Spelled
 pub mod Printable
+pub mod Fitting

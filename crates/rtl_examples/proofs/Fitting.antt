@@ -77,9 +77,9 @@ spelled_fits c ms ps opened s k d lt =
 pub put_fits : (w : ℕ) (c : Cell) (by t : Tree) → IsFitting w by → IsFitting w t → IsFitting w (put_for c by t)
 put_fits w c by (Read d) b h = at (same_cell d c)
   where
-  at : (x : Bool) → IsFitting w (if x then by else Read d)
-  at true = b
-  at false = tt
+    at : (x : Bool) → IsFitting w (if x then by else Read d)
+    at true = b
+    at false = tt
 put_fits w c by (Load d a) b h = put_fits w c by a b h
 put_fits w c by (Unary o a) b h = put_fits w c by a b h
 put_fits w c by (Binary o x y) b h = (put_fits w c by x b h.0, put_fits w c by y b h.1)

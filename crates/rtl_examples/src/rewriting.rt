@@ -11,11 +11,7 @@ use rtl_word::Word;
 use std::alloc::Global;
 
 /// The text of the normal form of the transfer that a text spells.
-pub fn normal_text<W: Word>(
-    alloc: Global,
-    text: &[u8],
-    names: &Names,
-) -> Result<Vec<u8>, TextFault>
+pub fn normal_text<W: Word>(alloc: Global, text: &[u8], names: &Names) -> Result<Vec<u8>, TextFault>
     requires { is_apart names.now }
     ensures normal { IfOk result (λ out. IsNormalTextOf (context W.BITS names.now []) text.now out.items) }
 {

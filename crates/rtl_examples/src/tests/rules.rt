@@ -61,9 +61,7 @@ const DIFFERENCES: [(&str, &str); 2] = [
 ];
 
 /// N5: a tree taken from 0 is its negative.
-const NEGATIVES: [(&str, &str); 1] = [
-    ("(0 - r[1])", "(neg r[1])"),
-];
+const NEGATIVES: [(&str, &str); 1] = [("(0 - r[1])", "(neg r[1])")];
 
 /// N6: two numbers under one `+`, `&` or `|` are joined.
 const JOINED: [(&str, &str); 5] = [
@@ -89,10 +87,7 @@ const NEUTRAL: [(&str, &str); 10] = [
 ];
 
 /// N8: twice negated or inverted is neither.
-const TWICE: [(&str, &str); 2] = [
-    ("(neg (neg r[1]))", "r[1]"),
-    ("(not (not r[1]))", "r[1]"),
-];
+const TWICE: [(&str, &str); 2] = [("(neg (neg r[1]))", "r[1]"), ("(not (not r[1]))", "r[1]")];
 
 /// N9: a byte is extended once.
 const EXTENDED: [(&str, &str); 3] = [
@@ -172,7 +167,10 @@ const TRANSFERS: [(&str, &str); 10] = [
     ("B[r[1]] = (r[2] & 255)", "B[r[1]] = r[2]"),
     ("M[r[1]] = (r[2] & 255)", "M[r[1]] = (r[2] & 255)"),
     ("B[r[1]] = (r[2] & 127)", "B[r[1]] = (r[2] & 127)"),
-    ("M[((r[1] + 2) + 2)] = (3 + r[2])", "M[(r[1] + 4)] = (r[2] + 3)"),
+    (
+        "M[((r[1] + 2) + 2)] = (3 + r[2])",
+        "M[(r[1] + 4)] = (r[2] + 3)",
+    ),
     ("r[1] = ((r[1] div 0) * 0)", "r[1] = ((r[1] div 0) * 0)"),
 ];
 

@@ -1,0 +1,5 @@
+//! The text of transfers.
+#![tactic(auto)]
+
+mod number;
+mod token;

@@ -1,6 +1,6 @@
 //! A token, and the longest one with which a text begins.
 
-ghost use Rattle.std.specs.Prelude.{length, ◌≡◌, ◌≤◌, ◌∷◌, ◌++◌, [], drop, false, IfSome, IfNone};
+ghost use Rattle.std.specs.Prelude.{length, ◌≡◌, ◌≤◌, ◌<◌, ◌∷◌, ◌++◌, [], drop, false, IfSome, IfNone};
 ghost use Rattle.std.specs.Char.{is_ascii_digit};
 ghost use Rattle.std.specs.List.{prefix_len};
 ghost use Rattle.asm_token.specs.Tokens.{is_name_start, is_name_byte};
@@ -111,6 +111,7 @@ fn mark_at(text: &[u8]) -> Option<(Sign, usize)>
     ensures spelled { IfSome result (λ found. text.now ≡ sign_bytes found.0 ++ drop found.1 text.now) }
     ensures bytes { IfSome result (λ found. length (sign_bytes found.0) ≡ found.1) }
     ensures longest { IfSome result (λ found. mark_length text.now ≡ found.1) }
+    ensures some { IfSome result (λ found. 0 < found.1) }
     ensures none { IfNone result (mark_length text.now ≡ 0) }
 {
     match text {

@@ -1,2 +1,3 @@
 pub mod Length
 pub mod Seen
+pub mod Refusals

@@ -8,3 +8,6 @@ abbrev pub token_of : Borrowed → Token
 token_of (borrowed.Word bs) = Word bs.now
 token_of (borrowed.Number bs) = Number bs.now
 token_of (borrowed.Mark s) = Mark s
+
+abbrev pub tokens_of : List Borrowed → List Token
+tokens_of ts = map token_of ts

@@ -1,3 +1,4 @@
 pub mod Length
 pub mod Seen
 pub mod Refusals
+pub mod Appending

@@ -1,6 +1,6 @@
 //! Numbers in decimal.
 
-ghost use Rattle.std.specs.Prelude.{◌≡◌, ◌<◌, ◌≤◌, ◌^◌, min};
+ghost use Rattle.std.specs.Prelude.{◌≡◌, ◌<◌, ◌≤◌, ◌^◌, min, IfSome};
 ghost use Rattle.std.specs.List.{AllPass, list_all};
 ghost use Rattle.std.specs.Char.{is_ascii_digit};
 ghost use Rattle.std.specs.Str.Parse.{digits_value};
@@ -57,7 +57,8 @@ fn is_plain(bytes: &[u8]) -> bool
 /// The number below a bound that the digits spell.
 pub(crate) fn number_below(bound: u64, bytes: &[u8]) -> Option<u32>
     requires { bound ≤ 2 ^ 32 }
-    ensures { result ≡ number_below bound bytes.now }
+    ensures value { result ≡ number_below bound bytes.now }
+    ensures below { IfSome result (λ n. n < bound) }
 {
     if !is_plain(bytes) {
         return None;

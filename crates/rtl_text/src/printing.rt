@@ -3,9 +3,9 @@
 ghost use Rattle.std.specs.Prelude.{◌≡◌, ◌∷◌, ◌++◌, [], OnOk, OnErr, get_or, decimal};
 ghost use Rattle.std.specs.Fmt.{signed_decimal};
 ghost use Rattle.rtl_word.specs.Words.{IsWordSize, word_signed};
-ghost use Rattle.rtl_tree.specs.Trees.{tree_of};
+ghost use Rattle.rtl_tree.specs.Trees.{Binary, Load, Unary, tree_of};
 ghost use Rattle.rtl_spelling.specs.Tokens.{Mark, Number, Word};
-ghost use Rattle.rtl_spelling.specs.Spelling.{cell_tokens, indexed, name_token};
+ghost use Rattle.rtl_spelling.specs.Spelling.{cell_tokens, indexed, name_token, operator_token};
 ghost use Rattle.rtl_spelling.specs.Printing.{IsPrintableTree, label_tokens, tree_tokens};
 ghost use Rattle.rtl_text.specs.Appending.{Appends};
 ghost use Rattle.rtl_text.specs.Seen.{context_of, token_of};
@@ -16,7 +16,7 @@ use crate::number::signed;
 use crate::token::Token;
 use itoa::Buffer;
 use rtl_spelling::Sign;
-use rtl_tree::{Cell, Expr, Lab, NameList, UnOp, Width};
+use rtl_tree::{BinOp, Cell, Expr, Lab, NameList, UnOp, Width};
 use std::alloc::AllocError;
 
 fn push_token(out: &mut Vec<u8>, token: Token<'_>) -> Result<(), AllocError>
@@ -55,4 +55,141 @@ fn push_index(out: &mut Vec<u8>, word: &[u8], index: u64) -> Result<(), AllocErr
     push_sign(out, Sign::LeftBracket)?;
     push_token(out, Token::Number(buffer.format(index).as_bytes()))?;
     push_sign(out, Sign::RightBracket)
+}
+
+fn push_cell(out: &mut Vec<u8>, cell: Cell) -> Result<(), AllocError>
+    ensures { OnOk result (Appends out.old.items out.new.items (cell_tokens cell)) }
+{
+    match cell {
+        Cell::Hard(n) => push_index(out, b"r", u64::from(n)),
+        Cell::Temp(n) => push_index(out, b"t", u64::from(n)),
+        Cell::Flag(n) => push_index(out, b"f", u64::from(n)),
+        Cell::Pc => push_word(out, b"PC"),
+        Cell::Input => push_word(out, b"IN"),
+        Cell::Output => push_word(out, b"OUT"),
+        Cell::Halt => push_word(out, b"HALT"),
+        Cell::Hole(_) => Ok(()),
+    }
+}
+
+fn name_at(list: &NameList, place: u16) -> &[u8]
+    ensures { result.now ≡ get_or list.now place [] }
+{
+    match list.get(usize::from(place)) {
+        Some(name) => name.bytes(),
+        None => b"",
+    }
+}
+
+fn push_name(out: &mut Vec<u8>, list: &NameList, place: u16) -> Result<(), AllocError>
+    ensures { OnOk result (Appends out.old.items out.new.items (name_token (get_or list.now place []) ∷ [])) }
+{
+    push_word(out, b"_")?;
+    out.extend_from_slice(name_at(list, place))
+}
+
+fn push_label(out: &mut Vec<u8>, c: &Context<'_>, label: Lab) -> Result<(), AllocError>
+    ensures { OnOk result (Appends out.old.items out.new.items (label_tokens (context_of c.now) label)) }
+{
+    match label {
+        Lab::Block(n) => {
+            let mut buffer = Buffer::new();
+            push_word(out, b"L")?;
+            out.extend_from_slice(buffer.format(n).as_bytes())
+        }
+        Lab::Function(place) => push_name(out, &c.names.functions, place),
+    }
+}
+
+#[cycle(trees)]
+fn push_memory(
+    out: &mut Vec<u8>,
+    c: &Context<'_>,
+    width: Width,
+    address: &Expr,
+) -> Result<(), AllocError>
+    requires size { IsWordSize c.now.bits }
+    requires printable { IsPrintableTree (context_of c.now) (tree_of address.now) }
+    ensures { OnOk result (Appends out.old.items out.new.items (tree_tokens (context_of c.now) (Load width (tree_of address.now)))) }
+{
+    push_word(out, memory_word(width))?;
+    push_sign(out, Sign::LeftBracket)?;
+    push_tree(out, c, address)?;
+    push_sign(out, Sign::RightBracket)
+}
+
+#[cycle(trees)]
+fn push_unary(
+    out: &mut Vec<u8>,
+    c: &Context<'_>,
+    operator: UnOp,
+    a: &Expr,
+) -> Result<(), AllocError>
+    requires size { IsWordSize c.now.bits }
+    requires printable { IsPrintableTree (context_of c.now) (tree_of a.now) }
+    ensures { OnOk result (Appends out.old.items out.new.items (tree_tokens (context_of c.now) (Unary operator (tree_of a.now)))) }
+{
+    push_sign(out, Sign::LeftParen)?;
+    match operator {
+        UnOp::Test(relation) => {
+            push_tree(out, c, a)?;
+            push_sign(out, Sign::Space)?;
+            push_word(out, relation_word(relation))?;
+        }
+        _ => {
+            push_word(out, unary_word(operator))?;
+            push_sign(out, Sign::Space)?;
+            push_tree(out, c, a)?;
+        }
+    }
+    push_sign(out, Sign::RightParen)
+}
+
+fn push_operator(out: &mut Vec<u8>, operator: BinOp) -> Result<(), AllocError>
+    ensures { OnOk result (Appends out.old.items out.new.items (Mark Sign.Space ∷ operator_token operator ∷ Mark Sign.Space ∷ [])) }
+{
+    push_sign(out, Sign::Space)?;
+    push_token(out, operator_token(operator))?;
+    push_sign(out, Sign::Space)
+}
+
+#[cycle(trees)]
+fn push_binary(
+    out: &mut Vec<u8>,
+    c: &Context<'_>,
+    operator: BinOp,
+    a: &Expr,
+    b: &Expr,
+) -> Result<(), AllocError>
+    requires size { IsWordSize c.now.bits }
+    requires left { IsPrintableTree (context_of c.now) (tree_of a.now) }
+    requires right { IsPrintableTree (context_of c.now) (tree_of b.now) }
+    ensures { OnOk result (Appends out.old.items out.new.items
+        (tree_tokens (context_of c.now) (Binary operator (tree_of a.now) (tree_of b.now)))) }
+{
+    push_sign(out, Sign::LeftParen)?;
+    push_tree(out, c, a)?;
+    push_operator(out, operator)?;
+    push_tree(out, c, b)?;
+    push_sign(out, Sign::RightParen)
+}
+
+// A hole prints nothing.
+#[cycle(trees)]
+fn push_tree(out: &mut Vec<u8>, c: &Context<'_>, e: &Expr) -> Result<(), AllocError>
+    requires size { IsWordSize c.now.bits }
+    requires printable { IsPrintableTree (context_of c.now) (tree_of e.now) }
+    ensures { OnOk result (Appends out.old.items out.new.items (tree_tokens (context_of c.now) (tree_of e.now))) }
+{
+    match e {
+        Expr::Num(word) => push_number(out, signed(c.bits, *word)),
+        Expr::Sym(place) => push_name(out, &c.names.objects, *place),
+        Expr::Label(label) => push_label(out, c, *label),
+        Expr::Cell(cell) => push_cell(out, *cell),
+        Expr::Mem(width, a) => push_memory(out, c, *width, a),
+        Expr::Un(operator, a) => push_unary(out, c, *operator, a),
+        Expr::Bin(operator, a, b) => push_binary(out, c, *operator, a, b),
+        Expr::Lost => push_word(out, b"lost"),
+        Expr::NumHole(_) | Expr::NameHole(_) => Ok(()),
+    }
 }

@@ -1,3 +1,5 @@
 pub mod Automaton
 pub mod Follow
 pub mod Numbers
+pub mod Told
+pub mod Runs

@@ -1,5 +1,6 @@
 -- What the program has in hand, without references.
-use Rattle.std.specs.Prelude.{List, map}
+use Rattle.std.specs.Prelude.{ℕ, List, [], map}
+use Rattle.rtl_tree.specs.declared.c_names.Names.{Names}
 use Rattle.rtl_spelling.specs.Tokens.{Token, Word, Number, Mark}
 use Rattle.rtl_spelling.specs.Spelling.{Context}
 use Rattle.rtl_text.specs.declared.token.Token.{Token as Borrowed}
@@ -16,3 +17,7 @@ tokens_of ts = map token_of ts
 
 abbrev pub context_of : Borrowing → Context
 context_of c = record { width = c.bits; objects = c.names.now.objects; functions = c.names.now.functions; holes = c.holes.now }
+
+-- a printer fills no holes
+abbrev pub printing_context : ℕ → Names → Context
+printing_context w n = record { width = w; objects = n.objects; functions = n.functions; holes = [] }

@@ -2,3 +2,4 @@ pub mod Length
 pub mod Seen
 pub mod Refusals
 pub mod Appending
+pub mod Gives

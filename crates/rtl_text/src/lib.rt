@@ -3,12 +3,15 @@
 
 mod bytes;
 mod context;
+mod cursor;
 mod fault;
 mod lexing;
 mod number;
 mod printing;
 mod senses;
 mod token;
+mod trouble;
 mod words;
 
 pub use fault::TextFault;
+pub use printing::print_transfer;

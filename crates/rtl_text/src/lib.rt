@@ -10,6 +10,7 @@ mod number;
 mod printing;
 mod senses;
 mod token;
+mod trees;
 mod trouble;
 mod words;
 

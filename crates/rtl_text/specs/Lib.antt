@@ -3,3 +3,4 @@ pub mod Seen
 pub mod Refusals
 pub mod Appending
 pub mod Gives
+pub mod Unary

@@ -3,3 +3,5 @@ pub mod Follow
 pub mod Numbers
 pub mod Told
 pub mod Runs
+pub mod Completion
+pub mod Traces

@@ -49,7 +49,7 @@ module _ (c : Context) where
   pub then_run : (x : Symbol) (ps qs : List Placed) (s r : Stack) → Passes c x ps → Run c s qs r → Run c (x ∷ s) (ps ++ qs) r
   then_run x ps qs s r h k = run_append c ps qs (x ∷ s) s r (h s) k
 
-  exactly_step : (s : Sign) → step c (Exactly s) (Mark s) ≡ Some (0, [])
+  pub exactly_step : (s : Sign) → step c (Exactly s) (Mark s) ≡ Some (0, [])
   exactly_step s = ap (λ b. on_test b [] None) (same_sign_itself s)
 
   pub exactly_run : (g : Sign) (qs : List Placed) (s r : Stack) → Run c s qs r → Run c (Exactly g ∷ s) (mark g ∷ qs) r

@@ -5,3 +5,4 @@ pub mod Told
 pub mod Runs
 pub mod Completion
 pub mod Traces
+pub mod Says

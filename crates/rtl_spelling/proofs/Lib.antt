@@ -6,3 +6,4 @@ pub mod Runs
 pub mod Completion
 pub mod Traces
 pub mod Says
+pub mod Sound

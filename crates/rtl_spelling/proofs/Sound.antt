@@ -350,3 +350,171 @@ module _ (c : Context) (k : IsContext c) where
   tree_on_gives d R r t ts (sense.Sign sign.Less) s =
       weaker_gives (HoleRead (t ∷ ts)) (Spelt d (t ∷ ts)) (read_hole c (t ∷ ts)) (hole_gives t ts s) (λ a us h. hole_spelt d (t ∷ ts) us a h)
   tree_on_gives d R r t ts _ s = tt
+
+  deep_or_wrong : (P : Tree → Tokens → Type 0) (b : Bool) (ts : Tokens) → Gives P (cond b (deep ts) (wrong ts))
+  deep_or_wrong P true ts = tt
+  deep_or_wrong P false ts = tt
+
+  nothing_deep : (P : Tree → Tokens → Type 0) (ts : Tokens) (v : Sense) → Gives P (too_deep c ts v)
+  nothing_deep P ts (sense.Number n) = tt
+  nothing_deep P ts (sense.Object n) = tt
+  nothing_deep P ts (sense.Label n) = tt
+  nothing_deep P ts (sense.Cell n) = tt
+  nothing_deep P ts (sense.Bank n) = tt
+  nothing_deep P ts (sense.Memory n) = tt
+  nothing_deep P ts (sense.Sign sign.LeftParen) = tt
+  nothing_deep P ts (sense.Sign sign.Less) = deep_or_wrong P (has_holes c.holes) ts
+  nothing_deep P ts _ = tt
+
+  tree_spelt : (f d : ℕ) → IsSound (suc d) (tree c f) → (ts : Tokens) → Gives (Spelt d ts) (tree c (suc f) ts)
+  tree_spelt f d r [] = tt
+  tree_spelt f d r (t ∷ ts) = tree_on_gives d (tree c f) r t ts (sense_of c t) (says c k t)
+
+  flag_from_cell : (ts us : Tokens) (n : ℕ) (x : Cell) → x ≡ Flag n → CellRead ts x us → FlagRead ts (ReadTree x) us
+  flag_from_cell ts us n x e r = record {
+    number = n;
+    below = subst IsSpelledCell e r.spelled;
+    is = ap ReadTree e;
+    split = r.split ∙ ap (λ x. cell_tokens x ++ us) e;
+  }
+
+  tree_flag : (f : ℕ) (ts : Tokens) → sense_of c (head_of ts) ≡ sense.Bank FlagBank → Gives (FlagRead ts) (tree c (suc f) ts)
+  tree_flag f [] e = absurd cc
+  tree_flag f (t ∷ ts) e =
+      let word : Says c t (sense.Bank FlagBank) = subst (Says c t) e (says c k t) in
+      subst (λ v. Gives (FlagRead (t ∷ ts)) (tree_on c (tree c f) (t ∷ ts) v)) (sym e)
+      (and_gives (Indexed FlagBank ts) (FlagRead (t ∷ ts)) (index FlagBank ts) (λ x us. gives (ReadTree x) us) (index_gives FlagBank ts)
+      (λ x us i. flag_from_cell (t ∷ ts) us i.number x i.is (cell_read FlagBank t ts us x word i)))
+
+  tree_sound : (f d : ℕ) → IsSound d (tree c f)
+  tree_sound zero d = record {
+    spelt = λ ts. nothing_deep (Spelt d ts) ts (sense_of c (head_of ts));
+    flag = λ ts e. nothing_deep (FlagRead ts) ts (sense_of c (head_of ts));
+  }
+  tree_sound (suc f) d = record { spelt = tree_spelt f d (tree_sound f (suc d)); flag = tree_flag f }
+
+  -- ---- assignments
+
+  record Placing (ts : Tokens) (g : Option Goal) (us : Tokens) : Type 0 where
+    pub placed : List Placed
+    pub split : ts ≡ tokens_in placed ++ us
+    pub spells : SpellsPlace c g placed
+
+  cell_placing : (ts us : Tokens) (x : Cell) → CellRead ts x us → Placing ts (Some (ToCell x)) us
+  cell_placing ts us x r = record { placed = begun 1 (cell_tokens x); split = r.split ∙ sym (tokens_begun 1 (cell_tokens x) us); spells = to_cell x r.spelled }
+
+  memory_placing : (w : Width) (t : Token) (ts : Tokens) (a : Tree) (us : Tokens) → t ≡ Word (memory_word w) → Addressed 2 ts a us → Placing (t ∷ ts) (Some (ToMemory w a)) us
+  memory_placing w t ts a us e r = record {
+    placed = memory_tokens 1 w r.placed;
+    split = ap (λ t. t ∷ ts) e ∙ ap (λ l. Word (memory_word w) ∷ l) (r.split ∙ ap (λ l. Mark sign.LeftBracket ∷ l) (sym (tokens_append r.placed (mark sign.RightBracket ∷ []) us)));
+    spells = to_memory w a r.placed r.spells;
+  }
+
+  hole_placing : (ts us : Tokens) (a : Tree) → HoleRead ts a us → Placing ts (goal_of_leaf a) us
+  hole_placing ts us a r =
+      record { placed = begun 1 (hole_tokens r.name); split = r.split ∙ sym (tokens_begun 1 (hole_tokens r.name) us); spells = to_hole r.name a r.leaf }
+
+  place_on_gives : (R : Reader) → IsSound 2 R → (t : Token) (ts : Tokens) (v : Sense) → Says c t v → Gives (Placing (t ∷ ts)) (place_on c R (t ∷ ts) v)
+  place_on_gives R r t ts (sense.Cell x) s = cell_placing (t ∷ ts) ts x (record { spelled = s.0; split = ap (λ l. l ++ ts) s.1 })
+  place_on_gives R r t ts (sense.Bank b) s =
+      and_gives (CellRead (t ∷ ts)) (Placing (t ∷ ts)) (index b ts) (λ x us. gives (Some (ToCell x)) us) (bank_gives b t ts s) (λ x us i. cell_placing (t ∷ ts) us x i)
+  place_on_gives R r t ts (sense.Memory w) s =
+      and_gives (Addressed 2 ts) (Placing (t ∷ ts)) (address R ts) (λ a us. gives (Some (ToMemory w a)) us) (address_gives 2 R r ts) (λ a us i. memory_placing w t ts a us s i)
+  place_on_gives R r t ts (sense.Sign sign.Less) s =
+      and_gives (HoleRead (t ∷ ts)) (Placing (t ∷ ts)) (read_hole c (t ∷ ts)) (λ a us. gives (goal_of_leaf a) us) (hole_gives t ts s) (λ a us h. hole_placing (t ∷ ts) us a h)
+  place_on_gives R r t ts _ s = tt
+
+  place_gives : (R : Reader) → IsSound 2 R → (ts : Tokens) → Gives (Placing ts) (place c R ts)
+  place_gives R r [] = tt
+  place_gives R r (t ∷ ts) = place_on_gives R r t ts (sense_of c t) (says c k t)
+
+  -- a value: a tree, or that it is lost
+  data Valued (ts : Tokens) (t : Tree) (us : Tokens) : Type 0 where
+    as_tree : Spelt 1 ts t us → Valued ts t us
+    as_lost : t ≡ NoPair → ts ≡ Word (codes "lost") ∷ us → Valued ts t us
+
+  value_on_gives : (S : Reader) → IsSound 1 S → (t : Token) (ts : Tokens) (v : Sense) → Says c t v → Gives (Valued (t ∷ ts)) (value_on S (t ∷ ts) v)
+  value_on_gives S r t ts sense.Lost s = as_lost refl (ap (λ t. t ∷ ts) s)
+  value_on_gives S r t ts v s = weaker_gives (Spelt 1 (t ∷ ts)) (Valued (t ∷ ts)) (S (t ∷ ts)) (r.spelt (t ∷ ts)) (λ a us h. as_tree h)
+
+  value_gives : (S : Reader) → IsSound 1 S → (ts : Tokens) → Gives (Valued ts) (read_value c S ts)
+  value_gives S r [] = weaker_gives (Spelt 1 []) (Valued []) (S []) (r.spelt []) (λ a us h. as_tree h)
+  value_gives S r (t ∷ ts) = value_on_gives S r t ts (sense_of c t) (says c k t)
+
+  record Moved (ts : Tokens) (m : Said) (us : Tokens) : Type 0 where
+    pub placed : List Placed
+    pub split : ts ≡ tokens_in placed ++ us
+    pub spells : SpellsMove c m placed
+
+  becomes_split : (ps qs : List Placed) (ts vs ws us : Tokens) → ts ≡ tokens_in ps ++ vs → vs ≡ Mark sign.Space ∷ Mark sign.Equals ∷ Mark sign.Space ∷ ws → ws ≡ tokens_in qs ++ us
+      → ts ≡ tokens_in (ps ++ becomes qs) ++ us
+  becomes_split ps qs ts vs ws us e f g =
+      e ∙ ap (λ l. tokens_in ps ++ l) (f ∙ ap (λ l. Mark sign.Space ∷ Mark sign.Equals ∷ Mark sign.Space ∷ l) g) ∙ sym (tokens_append ps (becomes qs) us)
+
+  moved : (g : Option Goal) (t : Tree) (ts vs ws us : Tokens) → Placing ts g vs → vs ≡ Mark sign.Space ∷ Mark sign.Equals ∷ Mark sign.Space ∷ ws → Valued ws t us
+      → Moved ts (record { to = g; value = t }) us
+  moved g t ts vs ws us p e (as_tree s) = record {
+    placed = p.placed ++ becomes s.placed;
+    split = becomes_split p.placed s.placed ts vs ws us p.split e s.split;
+    spells = value g t p.placed s.placed p.spells s.spells;
+  }
+  moved g t ts vs ws us p e (as_lost is f) =
+      subst (λ t. Moved ts (record { to = g; value = t }) us) (sym is) (record {
+        placed = p.placed ++ becomes (inner (Word (codes "lost")) ∷ []);
+        split = becomes_split p.placed (inner (Word (codes "lost")) ∷ []) ts vs ws us p.split e f;
+        spells = lost g p.placed p.spells;
+      })
+
+  move_gives : (f : ℕ) (ts : Tokens) → Gives (Moved ts) (move c f ts)
+  move_gives f ts =
+      and_gives (Placing ts) (Moved ts) (place c (tree c f) ts) _ (place_gives (tree c f) (tree_sound f 2) ts) (λ g us p.
+      and_gives (After sign.Space us) (Moved ts) (expect sign.Space us) _ (expect_gives sign.Space us) (λ _ vs e1.
+      and_gives (After sign.Equals vs) (Moved ts) (expect sign.Equals vs) _ (expect_gives sign.Equals vs) (λ _ ws e2.
+      and_gives (After sign.Space ws) (Moved ts) (expect sign.Space ws) _ (expect_gives sign.Space ws) (λ _ xs e3.
+      and_gives (Valued xs) (Moved ts) (read_value c (tree c (suc f)) xs) (λ t ys. gives (record { to = g; value = t }) ys) (value_gives (tree c (suc f)) (tree_sound (suc f) 1) xs) (λ t ys v.
+      moved g t ts us xs ys p (e1 ∙ ap (λ l. Mark sign.Space ∷ l) (e2 ∙ ap (λ l. Mark sign.Equals ∷ l) e3)) v)))))
+
+  pub record Transferred (ts : Tokens) (ms : List Said) (us : Tokens) : Type 0 where
+    pub placed : List Placed
+    pub split : ts ≡ tokens_in placed ++ us
+    pub spells : SpellsTransfer c ms placed
+
+  last_transfer : (m : Said) (ts vs us : Tokens) → Moved ts m vs → vs ≡ Mark sign.End ∷ us → Transferred ts (m ∷ []) us
+  last_transfer m ts vs us h e = record {
+    placed = h.placed ++ mark sign.End ∷ [];
+    split = h.split ∙ ap (λ l. tokens_in h.placed ++ l) e ∙ sym (tokens_append h.placed (mark sign.End ∷ []) us);
+    spells = last m h.placed h.spells;
+  }
+
+  more_transfer : (m : Said) (ms : List Said) (ts vs ws us : Tokens) → Moved ts m vs → vs ≡ Mark sign.Semicolon ∷ Mark sign.Space ∷ ws → Transferred ws ms us → Transferred ts (m ∷ ms) us
+  more_transfer m ms ts vs ws us h e r = record {
+    placed = h.placed ++ mark sign.Semicolon ∷ mark sign.Space ∷ r.placed;
+    split = h.split ∙ ap (λ l. tokens_in h.placed ++ l) (e ∙ ap (λ l. Mark sign.Semicolon ∷ Mark sign.Space ∷ l) r.split) ∙ sym (tokens_append h.placed (mark sign.Semicolon ∷ mark sign.Space ∷ r.placed) us);
+    spells = more m ms h.placed r.placed h.spells r.spells;
+  }
+
+  further : (f n : ℕ) (m : Said) (ts us : Tokens) → Moved ts m us → ((ts : Tokens) → Gives (Transferred ts) (moves c f n ts))
+      → Gives (Transferred ts) (expect sign.Semicolon us >>= λ _ us. expect sign.Space us >>= λ _ us. moves c f n us >>= λ ms us. gives (m ∷ ms) us)
+  further f n m ts us h rest =
+      and_gives (After sign.Semicolon us) (Transferred ts) (expect sign.Semicolon us) _ (expect_gives sign.Semicolon us) (λ _ vs e1.
+      and_gives (After sign.Space vs) (Transferred ts) (expect sign.Space vs) _ (expect_gives sign.Space vs) (λ _ ws e2.
+      and_gives (Transferred ws) (Transferred ts) (moves c f n ws) (λ ms us. gives (m ∷ ms) us) (rest ws) (λ ms xs r.
+      more_transfer m ms ts us ws xs h (e1 ∙ ap (λ l. Mark sign.Semicolon ∷ l) e2) r)))
+
+  behind_gives : (b : Bool) (f n : ℕ) (m : Said) (ts : Tokens) (t : Token) (us : Tokens) → is_sign sign.End t ≡ b → Moved ts m (t ∷ us) → ((ts : Tokens) → Gives (Transferred ts) (moves c f n ts))
+      → Gives (Transferred ts) (cond b (gives (m ∷ []) us) (expect sign.Semicolon (t ∷ us) >>= λ _ us. expect sign.Space us >>= λ _ us. moves c f n us >>= λ ms us. gives (m ∷ ms) us))
+  behind_gives true f n m ts t us e h rest = last_transfer m ts (t ∷ us) us h (ap (λ t. t ∷ us) (is_sign_is sign.End t e))
+  behind_gives false f n m ts t us e h rest = further f n m ts (t ∷ us) h rest
+
+  next_gives : (f n : ℕ) (m : Said) (ts us : Tokens) → Moved ts m us → ((ts : Tokens) → Gives (Transferred ts) (moves c f n ts))
+      → Gives (Transferred ts) (cond (is_sign sign.End (head_of us)) (gives (m ∷ []) (rest_of us)) (expect sign.Semicolon us >>= λ _ us. expect sign.Space us >>= λ _ us. moves c f n us >>= λ ms us. gives (m ∷ ms) us))
+  next_gives f n m ts [] h rest = tt
+  next_gives f n m ts (t ∷ us) h rest = behind_gives (is_sign sign.End t) f n m ts t us refl h rest
+
+  moves_gives : (f n : ℕ) (ts : Tokens) → Gives (Transferred ts) (moves c f n ts)
+  moves_gives f zero ts = tt
+  moves_gives f (suc n) ts =
+      and_gives (Moved ts) (Transferred ts) (move c f ts) _ (move_gives f ts) (λ m us h. next_gives f n m ts us h (λ ts. moves_gives f n ts))
+
+  pub transfer_spelled : (f : ℕ) (ts us : Tokens) (ms : List Said) → transfer c f ts ≡ gives ms us → Transferred ts ms us
+  transfer_spelled f ts us ms e = let h : Gives (Transferred ts) (gives ms us) = subst (Gives (Transferred ts)) e (moves_gives f (length ts) ts) in h

@@ -7,3 +7,4 @@ pub mod Completion
 pub mod Traces
 pub mod Says
 pub mod Sound
+pub mod Complete

@@ -82,7 +82,7 @@ module _ (c : Context) where
   place_cell_run Halt h s = ([], refl, refl)
   place_cell_run (Hole n) h s = absurd h
 
-  some_hole : (hs : List Open) (name : List ℕ) (leaf : Tree) → leaf_named hs name ≡ Some leaf → has_holes hs ≡ true
+  pub some_hole : (hs : List Open) (name : List ℕ) (leaf : Tree) → leaf_named hs name ≡ Some leaf → has_holes hs ≡ true
   some_hole [] name leaf e = absurd cc
   some_hole (h ∷ hs) name leaf e = refl
 

@@ -3,6 +3,7 @@ use Rattle.std.proofs.Common.{◌≡◌, ℕ, zero, suc, ◌+◌, ◌≤◌, ◌
 use Rattle.std.specs.Prelude.{cond, codes, decimal, slice_get, ◌⊎◌, ◌^◌}
 use Rattle.std.specs.Fmt.{signed_decimal}
 use Rattle.std.proofs.lemmas.Bool.{lt-leb}
+use Rattle.std.proofs.lemmas.List.{length-append}
 use Rattle.rtl_word.specs.Words.{word_signed}
 use Rattle.rtl_word.specs.declared.Rel.{Rel}
 use Rattle.rtl_tree.specs.declared.cells.Cell.{Cell}
@@ -178,3 +179,81 @@ module _ (c : Context) where
       flag_reads f q n us (Mark sign.Space ∷ Word (relation_word q) ∷ Mark sign.RightParen ∷ us)
       (flag_alone most f d n (Mark sign.Space ∷ Word (relation_word q) ∷ Mark sign.RightParen ∷ us) (omega (arith, e)) l w.1.0) refl
   reads_back k most _ _ _ (hole d name leaf is) (suc f) e w us = hole_reads name leaf us is
+
+  -- ---- assignments
+
+  place_cell_reads : (R : Reader) (x : Cell) (us : Tokens) → IsSpelledCell x → place c R (cell_tokens x ++ us) ≡ gives (Some (ToCell x)) us
+  place_cell_reads R (Hard n) us h = ap (λ (r : Read Cell). r >>= λ x us. gives (Some (ToCell x)) us) (index_reads Register n us h)
+  place_cell_reads R (Temp n) us h = ap (λ (r : Read Cell). r >>= λ x us. gives (Some (ToCell x)) us) (index_reads Temporary n us h)
+  place_cell_reads R (Flag n) us h = ap (λ (r : Read Cell). r >>= λ x us. gives (Some (ToCell x)) us) (index_reads FlagBank n us h)
+  place_cell_reads R Pc us h = refl
+  place_cell_reads R Input us h = refl
+  place_cell_reads R Output us h = refl
+  place_cell_reads R Halt us h = refl
+  place_cell_reads R (Hole n) us h = absurd h
+
+  place_memory_reads : (R : Reader) (w : Width) (a : Tree) (ps : List Placed) (us : Tokens) → R (tokens_in ps ++ Mark sign.RightBracket ∷ us) ≡ gives a (Mark sign.RightBracket ∷ us)
+      → place c R (tokens_in (memory_tokens 1 w ps) ++ us) ≡ gives (Some (ToMemory w a)) us
+  place_memory_reads R w a ps us h =
+      let ts : Tokens = Mark sign.LeftBracket ∷ (tokens_in (ps ++ mark sign.RightBracket ∷ []) ++ us) in
+      ap (place_on c R (Word (memory_word w) ∷ ts)) (memory_told c w)
+      ∙ ap (λ (r : Read Tree). r >>= λ a us. gives (Some (ToMemory w a)) us) (address_reads R a ps us h)
+
+  place_reads : (k : IsContext c) (f : ℕ) (g : Option Goal) (ps : List Placed) → SpellsPlace c g ps → Within (suc f) ps → (us : Tokens)
+      → place c (tree c f) (tokens_in ps ++ us) ≡ gives g us
+  place_reads k f _ _ (to_cell x h) w us = ap (place c (tree c f)) (tokens_begun 1 (cell_tokens x) us) ∙ place_cell_reads (tree c f) x us h
+  place_reads k f _ _ (to_memory v a ps h) w us =
+      place_memory_reads (tree c f) v a ps us
+      (reads_back k (suc f) 2 a ps h f (omega arith) (within_parts (suc f) ps (mark sign.RightBracket ∷ []) w.1.1).0 (Mark sign.RightBracket ∷ us))
+  place_reads k f _ _ (to_hole name leaf e) w us = ap (λ (r : Read Tree). r >>= λ t us. gives (goal_of_leaf t) us) (hole_reads name leaf us e)
+
+  -- no tree is `lost`
+  no_lost : (f : ℕ) (ts us : Tokens) (a : Tree) → sense_of c (head_of ts) ≡ sense.Lost → tree c f ts ≡ gives a us → ⊥
+  no_lost zero ts us a e h = let r : wrong {A = Tree} ts ≡ gives a us = ap (too_deep c ts) (sym e) ∙ h in absurd cc
+  no_lost (suc f) ts us a e h = let r : wrong {A = Tree} ts ≡ gives a us = ap (tree_on c (tree c f) ts) (sym e) ∙ h in absurd cc
+
+  value_on_reads : (f : ℕ) (ts us : Tokens) (a : Tree) (v : Sense) → sense_of c (head_of ts) ≡ v → tree c f ts ≡ gives a us → value_on (tree c f) ts v ≡ gives a us
+  value_on_reads f ts us a sense.Lost e h = absurd (no_lost f ts us a e h)
+  value_on_reads f ts us a v e h = h
+
+  value_reads : (f : ℕ) (ts us : Tokens) (a : Tree) → tree c f ts ≡ gives a us → read_value c (tree c f) ts ≡ gives a us
+  value_reads f ts us a h = value_on_reads f ts us a (sense_of c (head_of ts)) refl h
+
+  becomes_reads : (f : ℕ) (g : Option Goal) (t : Tree) (ps qs : List Placed) (us : Tokens)
+      → place c (tree c f) (tokens_in ps ++ Mark sign.Space ∷ Mark sign.Equals ∷ Mark sign.Space ∷ (tokens_in qs ++ us)) ≡ gives g (Mark sign.Space ∷ Mark sign.Equals ∷ Mark sign.Space ∷ (tokens_in qs ++ us))
+      → read_value c (tree c (suc f)) (tokens_in qs ++ us) ≡ gives t us
+      → move c f (tokens_in (ps ++ becomes qs) ++ us) ≡ gives (record { to = g; value = t }) us
+  becomes_reads f g t ps qs us h i =
+      ap (move c f) (tokens_append ps (becomes qs) us)
+      ∙ ap (λ (r : Read (Option Goal)). r >>= λ g us. expect sign.Space us >>= λ _ us. expect sign.Equals us >>= λ _ us. expect sign.Space us
+          >>= λ _ us. read_value c (tree c (suc f)) us >>= λ t us. gives (record { to = g; value = t }) us) h
+      ∙ ap (λ (r : Read Tree). r >>= λ t us. gives (record { to = g; value = t }) us) i
+
+  move_reads : (k : IsContext c) (f : ℕ) (m : Said) (ps : List Placed) → SpellsMove c m ps → Within (suc f) ps → (us : Tokens)
+      → move c f (tokens_in ps ++ us) ≡ gives m us
+  move_reads k f _ _ (value g t ps qs h i) w us =
+      let p = within_parts (suc f) ps (becomes qs) w in
+      becomes_reads f g t ps qs us (place_reads k f g ps h p.0 _)
+      (value_reads (suc f) (tokens_in qs ++ us) us t (reads_back k (suc f) 1 t qs i (suc f) (omega arith) p.1.1.1.1 us))
+  move_reads k f _ _ (lost g ps h) w us =
+      let p = within_parts (suc f) ps (becomes (inner (Word (codes "lost")) ∷ [])) w in
+      becomes_reads f g NoPair ps (inner (Word (codes "lost")) ∷ []) us (place_reads k f g ps h p.0 _) refl
+
+  abbrev behind : ℕ → ℕ → Said → Tokens → Read (List Said)
+  behind f n m us =
+      cond (is_sign sign.End (head_of us)) (gives (m ∷ []) (rest_of us))
+      (expect sign.Semicolon us >>= λ _ us. expect sign.Space us >>= λ _ us. moves c f n us >>= λ ms us. gives (m ∷ ms) us)
+
+  pub transfer_reads : (k : IsContext c) (f : ℕ) (ms : List Said) (ps : List Placed) → SpellsTransfer c ms ps → Within (suc f) ps
+      → (n : ℕ) → length ps ≤ n → (us : Tokens) → moves c f n (tokens_in ps ++ us) ≡ gives ms us
+  transfer_reads k f _ _ (last m ps h) w zero le us = absurd (omega (arith, le, length-append ps (mark sign.End ∷ [])))
+  transfer_reads k f _ _ (more m ms ps qs h i) w zero le us = absurd (omega (arith, le, length-append ps (mark sign.Semicolon ∷ mark sign.Space ∷ qs)))
+  transfer_reads k f _ _ (last m ps h) w (suc n) le us =
+      ap (moves c f (suc n)) (tokens_append ps (mark sign.End ∷ []) us)
+      ∙ ap (λ (r : Read Said). r >>= λ m us. behind f n m us) (move_reads k f m ps h (within_parts (suc f) ps (mark sign.End ∷ []) w).0 (Mark sign.End ∷ us))
+  transfer_reads k f _ _ (more m ms ps qs h i) w (suc n) le us =
+      let p = within_parts (suc f) ps (mark sign.Semicolon ∷ mark sign.Space ∷ qs) w in
+      ap (moves c f (suc n)) (tokens_append ps (mark sign.Semicolon ∷ mark sign.Space ∷ qs) us)
+      ∙ ap (λ (r : Read Said). r >>= λ m us. behind f n m us) (move_reads k f m ps h p.0 (Mark sign.Semicolon ∷ Mark sign.Space ∷ (tokens_in qs ++ us)))
+      ∙ ap (λ (r : Read (List Said)). r >>= λ ms us. gives (m ∷ ms) us)
+          (transfer_reads k f ms qs i p.1.1.1 n (omega (arith, le, length-append ps (mark sign.Semicolon ∷ mark sign.Space ∷ qs))) us)

@@ -3,3 +3,8 @@ pub mod Follow
 pub mod Numbers
 pub mod Told
 pub mod Runs
+pub mod Completion
+pub mod Traces
+pub mod Says
+pub mod Sound
+pub mod Complete

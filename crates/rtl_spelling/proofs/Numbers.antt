@@ -182,7 +182,7 @@ FindsIn ns name = (k : ℕ) → place_among ns name ≡ Some k → slice_get ns 
 some_same : {A : Type 0} (x y : A) → Some x ≡ Some y → x ≡ y
 some_same x y e = cc
 
-equal_bytes : (m n : List ℕ) → bytes_eq m n ≡ true → m ≡ n
+pub equal_bytes : (m n : List ℕ) → bytes_eq m n ≡ true → m ≡ n
 equal_bytes m n e = (bytes_eq-Decides m n).0 e
 
 pub same_bytes : (m n : List ℕ) → m ≡ n → bytes_eq m n ≡ true

@@ -49,7 +49,7 @@ module _ (c : Context) where
   pub then_run : (x : Symbol) (ps qs : List Placed) (s r : Stack) → Passes c x ps → Run c s qs r → Run c (x ∷ s) (ps ++ qs) r
   then_run x ps qs s r h k = run_append c ps qs (x ∷ s) s r (h s) k
 
-  exactly_step : (s : Sign) → step c (Exactly s) (Mark s) ≡ Some (0, [])
+  pub exactly_step : (s : Sign) → step c (Exactly s) (Mark s) ≡ Some (0, [])
   exactly_step s = ap (λ b. on_test b [] None) (same_sign_itself s)
 
   pub exactly_run : (g : Sign) (qs : List Placed) (s r : Stack) → Run c s qs r → Run c (Exactly g ∷ s) (mark g ∷ qs) r
@@ -82,7 +82,7 @@ module _ (c : Context) where
   place_cell_run Halt h s = ([], refl, refl)
   place_cell_run (Hole n) h s = absurd h
 
-  some_hole : (hs : List Open) (name : List ℕ) (leaf : Tree) → leaf_named hs name ≡ Some leaf → has_holes hs ≡ true
+  pub some_hole : (hs : List Open) (name : List ℕ) (leaf : Tree) → leaf_named hs name ≡ Some leaf → has_holes hs ≡ true
   some_hole [] name leaf e = absurd cc
   some_hole (h ∷ hs) name leaf e = refl
 

@@ -2,7 +2,11 @@
 use Rattle.std.specs.Prelude.{ℕ, List, [], map}
 use Rattle.rtl_tree.specs.declared.c_names.Names.{Names}
 use Rattle.rtl_spelling.specs.Tokens.{Token, Word, Number, Mark}
-use Rattle.rtl_spelling.specs.Spelling.{Context}
+use Rattle.rtl_spelling.specs.Spelling.{Context, Said}
+use Rattle.std.specs.Option.{option_map}
+use Rattle.rtl_tree.specs.Trees.{tree_of}
+use Rattle.rtl_tree.specs.Moves.{goal_of}
+use Rattle.rtl_text.specs.declared.said.Assignment.{Assignment}
 use Rattle.rtl_text.specs.declared.token.Token.{Token as Borrowed}
 use Rattle.rtl_text.specs.declared.token.Token.TheVariants as borrowed
 use Rattle.rtl_text.specs.declared.context.Context.{Context as Borrowing}
@@ -21,3 +25,6 @@ context_of c = record { width = c.bits; objects = c.names.now.objects; functions
 -- a printer fills no holes
 abbrev pub printing_context : ℕ → Names → Context
 printing_context w n = record { width = w; objects = n.objects; functions = n.functions; holes = [] }
+
+abbrev pub said_by : Assignment → Said
+said_by a = record { to = option_map goal_of a.to; value = tree_of a.value }

@@ -4,3 +4,4 @@ pub mod Refusals
 pub mod Appending
 pub mod Gives
 pub mod Unary
+pub mod Collected

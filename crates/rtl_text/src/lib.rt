@@ -5,6 +5,7 @@ mod bytes;
 mod context;
 mod cursor;
 mod fault;
+mod gathering;
 mod lexing;
 mod moves;
 mod number;

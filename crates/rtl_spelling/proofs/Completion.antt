@@ -19,9 +19,10 @@ use Rattle.rtl_spelling.proofs.Numbers.{same_bytes}
 use Rattle.rtl_spelling.proofs.Automaton.{Symbol, ATree, Inside, Operator, Tested, AfterRelation, Exactly, Index, HoleName, Place, Value, After, Stack, Step, below, tree_step, right_of, operator_step, tested_step, inside_step, place_step, value_step, behind_place, start, on_test, on_found, step}
 use Rattle.rtl_spelling.proofs.Runs.{Run, run_append, Passes, exactly_run, exactly_step}
 
--- a hole's name is expected only where holes are open
+-- a hole's name is expected only where holes are open, and its `<` is nowhere expected alone
 abbrev pub MayStand : Context → Symbol → Type 0
 MayStand c HoleName = has_holes c.holes ≡ true
+MayStand c (Exactly sign.Less) = ⊥
 MayStand c x = Unit {0}
 
 abbrev pub AllMay : Context → Stack → Type 0

@@ -1,0 +1,1 @@
+-- What the automaton passes over begins a spelling.

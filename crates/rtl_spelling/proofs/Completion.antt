@@ -105,6 +105,9 @@ module _ (c : Context) where
       test_may (is_sign sign.End t) [] _ tt
       (test_may (is_sign sign.Semicolon t) (Exactly sign.Space ∷ start) None (tt, (tt, (tt, (tt, (tt, (tt, (tt, tt))))))) tt)
 
+  pub start_may : AllMay c start
+  start_may = (tt, (tt, (tt, (tt, (tt, (tt, tt))))))
+
   pub run_may : (ps : List Placed) (s r : Stack) → AllMay c s → Run c s ps r → AllMay c r
   run_may [] s r h k = subst (AllMay c) k h
   run_may (p ∷ ps) [] r h k = absurd k

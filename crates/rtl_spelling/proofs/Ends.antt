@@ -100,7 +100,7 @@ pub record Bodied (ts : Tokens) : Type 0 where
   pub is : ts ≡ body ++ Mark sign.End ∷ []
   pub none : ends body ≡ 0
 
-tokens_append : (ps qs : List Placed) → tokens_in (ps ++ qs) ≡ tokens_in ps ++ tokens_in qs
+pub tokens_append : (ps qs : List Placed) → tokens_in (ps ++ qs) ≡ tokens_in ps ++ tokens_in qs
 tokens_append [] qs = refl
 tokens_append (p ∷ ps) qs = ap (λ l. p.token ∷ l) (tokens_append ps qs)
 

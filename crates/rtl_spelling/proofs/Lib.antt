@@ -11,3 +11,4 @@ pub mod Complete
 pub mod Ends
 pub mod Depths
 pub mod Begun
+pub mod Answered

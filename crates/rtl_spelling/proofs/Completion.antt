@@ -19,9 +19,10 @@ use Rattle.rtl_spelling.proofs.Numbers.{same_bytes}
 use Rattle.rtl_spelling.proofs.Automaton.{Symbol, ATree, Inside, Operator, Tested, AfterRelation, Exactly, Index, HoleName, Place, Value, After, Stack, Step, below, tree_step, right_of, operator_step, tested_step, inside_step, place_step, value_step, behind_place, start, on_test, on_found, step}
 use Rattle.rtl_spelling.proofs.Runs.{Run, run_append, Passes, exactly_run, exactly_step}
 
--- a hole's name is expected only where holes are open
+-- a hole's name is expected only where holes are open, and its `<` is nowhere expected alone
 abbrev pub MayStand : Context → Symbol → Type 0
 MayStand c HoleName = has_holes c.holes ≡ true
+MayStand c (Exactly sign.Less) = ⊥
 MayStand c x = Unit {0}
 
 abbrev pub AllMay : Context → Stack → Type 0
@@ -103,6 +104,9 @@ module _ (c : Context) where
   step_may After t =
       test_may (is_sign sign.End t) [] _ tt
       (test_may (is_sign sign.Semicolon t) (Exactly sign.Space ∷ start) None (tt, (tt, (tt, (tt, (tt, (tt, (tt, tt))))))) tt)
+
+  pub start_may : AllMay c start
+  start_may = (tt, (tt, (tt, (tt, (tt, (tt, tt))))))
 
   pub run_may : (ps : List Placed) (s r : Stack) → AllMay c s → Run c s ps r → AllMay c r
   run_may [] s r h k = subst (AllMay c) k h

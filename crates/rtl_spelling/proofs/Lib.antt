@@ -8,3 +8,7 @@ pub mod Traces
 pub mod Says
 pub mod Sound
 pub mod Complete
+pub mod Ends
+pub mod Depths
+pub mod Begun
+pub mod Answered

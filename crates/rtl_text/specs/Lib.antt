@@ -5,3 +5,4 @@ pub mod Appending
 pub mod Gives
 pub mod Unary
 pub mod Collected
+pub mod Answering

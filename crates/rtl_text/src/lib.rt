@@ -2,6 +2,7 @@
 #![tactic(auto)]
 
 mod bytes;
+mod calls;
 mod context;
 mod cursor;
 mod fault;
@@ -9,6 +10,7 @@ mod gathering;
 mod lexing;
 mod moves;
 mod number;
+mod places;
 mod printing;
 mod said;
 mod senses;

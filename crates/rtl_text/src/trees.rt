@@ -34,7 +34,7 @@ fn leaf_named<'h>(holes: &'h [OpenHole], name: &[u8]) -> Option<&'h Expr>
     None
 }
 
-fn leaf_at<'c>(c: &Context<'c>, token: Token<'_>) -> Option<&'c Expr>
+pub(crate) fn leaf_at<'c>(c: &Context<'c>, token: Token<'_>) -> Option<&'c Expr>
     ensures { option_map (λ e. tree_of e.now) result ≡ Reading.leaf_at (context_of c.now) (token_of token.entry) }
 {
     match token {

@@ -2,3 +2,4 @@ pub mod Numbers
 pub mod Longest
 pub mod Cuts
 pub mod Collecting
+pub mod Spans

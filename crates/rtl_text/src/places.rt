@@ -1,6 +1,6 @@
 //! Where a fault lies.
 
-ghost use Rattle.std.specs.Prelude.{◌≡◌, ◌-◌, ◌<◌, ◌^◌, ◌∷◌, length, take};
+ghost use Rattle.std.specs.Prelude.{◌≡◌, ◌-◌, ◌<◌, ◌^◌, ◌&&◌, length, nat_lt, suc, take};
 ghost use Rattle.rtl_spelling.specs.Reading;
 ghost use Rattle.rtl_spelling.specs.Tokens.{spelled, spelling};
 ghost use Rattle.rtl_text.specs.Answering.{settles};
@@ -40,6 +40,14 @@ fn is_unknown_hole(c: &Context<'_>, tokens: &[Token<'_>]) -> bool
         && is_sign(Sign::Greater, head_of(rest_of(name)))
 }
 
+// Whether the token before the last ones, `left` of them, begins such a hole.
+fn is_name_of_unknown(c: &Context<'_>, tokens: &[Token<'_>], left: usize) -> bool
+    ensures { result ≡ (nat_lt left (length tokens.now)
+        && Reading.is_unknown_hole (context_of c.now) (Reading.last_tokens (suc left) (tokens_of tokens.now))) }
+{
+    left < tokens.len() && is_unknown_hole(c, last_tokens(tokens, left + 1))
+}
+
 /// The trouble, told at the front of the hole where it is the name of a whole hole that isn't open, or its depth.
 pub(crate) fn settled(c: &Context<'_>, tokens: &[Token<'_>], trouble: Trouble) -> Trouble
     ensures { result ≡ settles (context_of c.now) (tokens_of tokens.now) trouble }
@@ -47,7 +55,7 @@ pub(crate) fn settled(c: &Context<'_>, tokens: &[Token<'_>], trouble: Trouble) -
     match trouble {
         Trouble::NoMemory => Trouble::NoMemory,
         Trouble::Wrong(left) => {
-            if left < tokens.len() && is_unknown_hole(c, last_tokens(tokens, left + 1)) {
+            if is_name_of_unknown(c, tokens, left) {
                 Trouble::Wrong(left + 1)
             } else {
                 Trouble::Wrong(left)

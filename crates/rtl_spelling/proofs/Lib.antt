@@ -13,3 +13,4 @@ pub mod Depths
 pub mod Begun
 pub mod Answered
 pub mod Shapes
+pub mod Lexed

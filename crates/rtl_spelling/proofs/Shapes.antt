@@ -96,7 +96,7 @@ pub data Shape (b : ℕ) (bs : List ℕ) : Type 0 where
   single : is_name_byte b ≡ false → bs ≡ [] → Shape b bs
   arrow : b ≡ 45 → bs ≡ 62 ∷ [] → Shape b bs
 
-head_byte : (a b : ℕ) (xs bs : List ℕ) → a ∷ xs ≡ b ∷ bs → (a ≡ b) × (xs ≡ bs)
+pub head_byte : (a b : ℕ) (xs bs : List ℕ) → a ∷ xs ≡ b ∷ bs → (a ≡ b) × (xs ≡ bs)
 head_byte a b xs bs e = (cc, cc)
 
 word_shape : (b : ℕ) (bs cs : List ℕ) → IsName cs → cs ≡ b ∷ bs → Shape b bs

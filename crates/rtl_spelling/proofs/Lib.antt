@@ -12,3 +12,5 @@ pub mod Ends
 pub mod Depths
 pub mod Begun
 pub mod Answered
+pub mod Shapes
+pub mod Lexed

@@ -3,7 +3,7 @@ use Rattle.std.specs.Prelude.{ℕ, suc, ◌≡◌, List, [], ◌∷◌, ◌++◌
 use Rattle.rtl_tree.specs.Moves.{Move}
 use Rattle.rtl_tree.specs.WellFormed.{IsWellFormed}
 use Rattle.rtl_spelling.specs.declared.signs.Sign.TheVariants as sign
-use Rattle.rtl_spelling.specs.Tokens.{Token, Mark, Lexes}
+use Rattle.rtl_spelling.specs.Tokens.{Token, Mark, Lexes, Stuck}
 use Rattle.rtl_spelling.specs.Spelling.{Context, IsContext, Said, IsSpelled}
 use Rattle.rtl_spelling.specs.Faults.{FormFault, DepthFault}
 use Rattle.rtl_spelling.specs.Printing.{text_of, IsPrintable, IsTyped}
@@ -50,9 +50,12 @@ ReadingAnswers = (c : Context) (ts : List Token) → IsContext c → IsEnded ts 
 abbrev pub SpelledIsRead : Type 0
 SpelledIsRead = (c : Context) (ms : List Said) (ts : List Token) → IsContext c → IsSpelled c ms ts → reading c ts ≡ Ok ms
 
--- a text falls into at most one list of tokens, in which the end stands last and nowhere else
+-- a text falls into at most one list of tokens, and into none where a byte begins no token; the end stands last, and nowhere else
 abbrev pub AtMostOneLexed : Type 0
 AtMostOneLexed = (text : List ℕ) (ts us : List Token) → Lexes text ts → Lexes text us → ts ≡ us
+
+abbrev pub StuckIsNotLexed : Type 0
+StuckIsNotLexed = (text : List ℕ) (p : ℕ) (ts : List Token) → Stuck text p → Lexes text ts → ⊥
 
 abbrev pub LexedIsEnded : Type 0
 LexedIsEnded = (text : List ℕ) (ts : List Token) → Lexes text ts → IsEnded ts

@@ -1,11 +1,11 @@
 -- What a reader of texts answers.
-use Rattle.std.specs.Prelude.{ℕ, ◌≡◌, List, Option, Result, Ok, Err}
+use Rattle.std.specs.Prelude.{ℕ, ◌≡◌, ◌-◌, List, Option, Result, Ok, Err, IfOk, IfErr, length, take}
 use Rattle.rtl_tree.specs.Moves.{Move}
 use Rattle.rtl_tree.specs.WellFormed.{IsWellFormed}
-use Rattle.rtl_spelling.specs.Tokens.{Token, Stuck}
+use Rattle.rtl_spelling.specs.Tokens.{Token, Stuck, spelled}
 use Rattle.rtl_spelling.specs.Spelling.{Context, Said}
 use Rattle.rtl_spelling.specs.Reading.{Trouble, Wrong, Deep, settled}
-use Rattle.rtl_spelling.specs.Contract.{said_of, BadFormOf, TooDeepOf, SaysIllFormed}
+use Rattle.rtl_spelling.specs.Contract.{said_of, BadFormOf, TooDeepOf, SaysIllFormed, SpellsText, TextSays}
 use Rattle.rtl_text.specs.Collected.{collected}
 use Rattle.rtl_text.specs.declared.fault.TextFault.{TextFault}
 use Rattle.rtl_text.specs.declared.fault.TextFault.TheVariants as fault
@@ -40,3 +40,15 @@ Tells ss (Ok ms) = ss ≡ said_of ms
 Tells ss (Err fault.NoMemory) = Unit {0}
 Tells ss (Err fault.IllFormed) = (ms : List Move) → ss ≡ said_of ms → IsWellFormed ms → ⊥
 Tells ss (Err _) = ⊥
+
+-- the fault at the first of the last tokens
+abbrev pub fault_at : List Token → Stop → TextFault
+fault_at ts stop.NoMemory = fault.NoMemory
+fault_at ts (stop.Wrong n) = fault.BadForm (length (spelled (take (length ts - n) ts)))
+fault_at ts (stop.Deep n) = fault.TooDeep (length (spelled (take (length ts - n) ts)))
+
+-- all that an answer owes
+pub record Outcome (c : Context) (text : List ℕ) (answer : Result (List Move) TextFault) : Type 0 where
+  pub found : IfOk answer (TextSays c text)
+  pub refused : IfErr answer (Refuses c text)
+  pub only : (ss : List Said) → SpellsText c text ss → Tells ss answer

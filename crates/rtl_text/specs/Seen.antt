@@ -1,6 +1,7 @@
 -- What the program has in hand, without references.
 use Rattle.std.specs.Prelude.{ℕ, List, [], map}
 use Rattle.rtl_tree.specs.declared.c_names.Names.{Names}
+use Rattle.rtl_spelling.specs.Holes.{Open}
 use Rattle.rtl_spelling.specs.Tokens.{Token, Word, Number, Mark}
 use Rattle.rtl_spelling.specs.Spelling.{Context, Said}
 use Rattle.std.specs.Option.{option_map}
@@ -22,9 +23,12 @@ tokens_of ts = map token_of ts
 abbrev pub context_of : Borrowing → Context
 context_of c = record { width = c.bits; objects = c.names.now.objects; functions = c.names.now.functions; holes = c.holes.now }
 
+abbrev pub reading_context : ℕ → Names → List Open → Context
+reading_context w n holes = record { width = w; objects = n.objects; functions = n.functions; holes = holes }
+
 -- a printer fills no holes
 abbrev pub printing_context : ℕ → Names → Context
-printing_context w n = record { width = w; objects = n.objects; functions = n.functions; holes = [] }
+printing_context w n = reading_context w n []
 
 abbrev pub said_by : Assignment → Said
 said_by a = record { to = option_map goal_of a.to; value = tree_of a.value }

@@ -21,3 +21,5 @@ mod words;
 
 pub use fault::TextFault;
 pub use printing::print_transfer;
+pub use calls::{read_holed, read_transfer};
+pub use rtl_spelling::{OpenHole, Sign};

@@ -3,3 +3,4 @@ pub mod Longest
 pub mod Cuts
 pub mod Collecting
 pub mod Spans
+pub mod Outcomes

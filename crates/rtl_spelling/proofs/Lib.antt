@@ -14,3 +14,4 @@ pub mod Begun
 pub mod Answered
 pub mod Shapes
 pub mod Lexed
+pub mod Printed

@@ -23,3 +23,6 @@ pub use fault::TextFault;
 pub use printing::print_transfer;
 pub use calls::{read_holed, read_transfer};
 pub use rtl_spelling::{OpenHole, Sign};
+
+#[cfg(test)]
+mod tests;

@@ -1,2 +1,17 @@
 pub mod Automaton
 pub mod Follow
+pub mod Numbers
+pub mod Told
+pub mod Runs
+pub mod Completion
+pub mod Traces
+pub mod Says
+pub mod Sound
+pub mod Complete
+pub mod Ends
+pub mod Depths
+pub mod Begun
+pub mod Answered
+pub mod Shapes
+pub mod Lexed
+pub mod Printed

@@ -6,3 +6,4 @@ pub mod Printing
 pub mod Contract
 pub mod Senses
 pub mod Reading
+pub mod Law

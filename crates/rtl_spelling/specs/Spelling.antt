@@ -1,7 +1,8 @@
 -- Which tokens spell a transfer, and how deep the trees stand that they begin.
-use Rattle.std.specs.Prelude.{ℕ, suc, ◌^◌, ◌<◌, ◌≤◌, ◌≡◌, List, [], ◌∷◌, ◌++◌, map, All, Option, Some, None, slice_get, codes, decimal}
+use Rattle.std.specs.Prelude.{ℕ, suc, ◌^◌, ◌<◌, ◌≤◌, ◌≡◌, List, [], ◌∷◌, ◌++◌, map, All, Contains, Option, Some, None, slice_get, codes, decimal}
 use Rattle.std.specs.Fmt.{signed_decimal}
-use Rattle.rtl_word.specs.Words.{word_signed}
+use Rattle.rtl_word.specs.Words.{IsWordSize, word_signed}
+use Rattle.rtl_tree.specs.Names.{AreNames}
 use Rattle.rtl_word.specs.declared.Rel.{Rel}
 use Rattle.rtl_word.specs.declared.Rel.TheVariants.{Eq, Ne, Lt, Le, Gt, Ge, Ltu, Leu, Gtu, Geu}
 use Rattle.rtl_tree.specs.declared.cells.Cell.{Cell}
@@ -26,6 +27,17 @@ pub record Context : Type 0 where
   pub objects : List (List ℕ)
   pub functions : List (List ℕ)
   pub holes : List Open
+
+-- no name stands in both lists
+abbrev pub AreApart : List (List ℕ) → List (List ℕ) → Type 0
+AreApart ms ns = (name : List ℕ) → Contains ms name → Contains ns name → ⊥
+
+-- the word has a size of a machine's, and no name stands twice
+pub record IsContext (c : Context) : Type 0 where
+  pub size : IsWordSize c.width
+  pub objects : AreNames c.objects
+  pub functions : AreNames c.functions
+  pub apart : AreApart c.objects c.functions
 
 -- a token, and the depth of the tree that it begins, 0 where it begins none
 pub record Placed : Type 0 where

@@ -10,6 +10,7 @@
 #![tactic(auto)]
 
 mod holes;
+pub mod law;
 mod senses;
 mod signs;
 

@@ -1,0 +1,6 @@
+pub mod Numbers
+pub mod Longest
+pub mod Cuts
+pub mod Collecting
+pub mod Spans
+pub mod Outcomes

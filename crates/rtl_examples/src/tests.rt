@@ -1,6 +1,6 @@
 //! What is read, worked out and printed, by example.
 
-ghost use Rattle.rtl_text.specs.Stub.{is_apart};
+ghost use Rattle.rtl_spelling.specs.Spelling.{AreApart};
 
 mod rows;
 mod rules;
@@ -10,7 +10,7 @@ use rtl_tree::{NameList, Names};
 use std::alloc::Global;
 
 fn no_names(alloc: Global) -> Names
-    ensures { is_apart result }
+    ensures { AreApart result.objects result.functions }
 {
     Names {
         objects: NameList::new(alloc),

@@ -2,15 +2,15 @@ use Rattle.std.proofs.Common.{◌≡◌, ◌<◌, List, [], length, get_or, refl
 use Rattle.rtl_tree.specs.Trees.{tree_of}
 use Rattle.rtl_tree.specs.Moves.{Move}
 use Rattle.rtl_tree.specs.Sorts.{IsFitting}
-use Rattle.rtl_text.specs.Stub.{context}
+use Rattle.rtl_text.specs.Seen.{printing_context}
 use Rattle.rtl_examples.proofs.Reading.{IsRead, read_fits}
 use Rattle.rtl_examples.proofs.tests.substitution.value.Goals as goal
 
 pub returns : goal.returns
 returns c =
     let moves : List Move = c.in_ok-transfer.transfer in
-    let read : IsRead (context 16 c.no_names.result []) c.as_bytes.result.now moves =
-    record { size = inl refl; closed = refl; says = c.in_ok-transfer.ensures.says } in
+    let read : IsRead (printing_context 16 c.no_names.result) c.as_bytes.result.now moves =
+    record { size = inl refl; closed = refl; says = c.in_ok-transfer.ensures.found } in
     let first : Move = c.index-deref_mut-0.result in
     let fits : IsFitting 16 (get_or moves 0 first).value = (read_fits _ _ _ read 0 first read.says.well_formed.nonempty).1 in
     let list = c.deref_mut.ensures.value ∙ c.transfer.view_is in

@@ -1,5 +1,5 @@
 -- What the steps of reading, normalising and printing owe one another.
-use Rattle.std.proofs.Common.{◌≡◌, ℕ, List, [], ◌∷◌, Result, Ok, Err, IsErrAnd, unwrap_or, Vec, Global, refl, sym, ap, subst, ◌∙◌}
+use Rattle.std.proofs.Common.{◌≡◌, ℕ, List, [], ◌∷◌, ◌++◌, Result, Ok, Err, IsErrAnd, unwrap_or, Vec, Global, refl, sym, ap, subst, ◌∙◌}
 use Rattle.std.specs.List.{All}
 use Rattle.rtl_word.specs.Words.{IsWordSize}
 use Rattle.rtl_tree.specs.Moves.{ToCell, Move}
@@ -46,9 +46,14 @@ moves_from_said (m ∷ ms) = ap (λ xs. m ∷ xs) (moves_from_said ms)
 same_moves : (ms ns : List Move) → said_of ms ≡ said_of ns → ms ≡ ns
 same_moves ms ns e = sym (moves_from_said ms) ∙ (ap moves_from e ∙ moves_from_said ns)
 
--- what was read is the one transfer that the text spells
-pub printed_alike : (c : Context) (ms ns : List Move) (out : List ℕ) → said_of ms ≡ said_of ns → out ≡ text_of c (norm_moves c.width ns) → out ≡ text_of c (norm_moves c.width ms)
-printed_alike c ms ns out e p = p ∙ ap (λ xs. text_of c (norm_moves c.width xs)) (sym (same_moves ms ns e))
+-- what is printed of the normal form of what was read is that of the one transfer that the text spells
+pub printed_alike :
+    (c : Context) (ms ns es : List Move) (start out : List ℕ) → said_of ms ≡ said_of ns → es ≡ norm_moves c.width ns → start ≡ [] → out ≡ start ++ text_of c es
+    → out ≡ text_of c (norm_moves c.width ms)
+printed_alike c ms ns es start out same normal empty printed =
+    let moves = same_moves ms ns same in
+    let alike : es ≡ norm_moves c.width ms = rw moves normal in
+    printed ∙ (ap (λ bytes. bytes ++ text_of c es) empty ∙ ap (text_of c) alike)
 
 -- a fault is told of no text that spells a transfer
 pub no_fault : (c : Context) (text : List ℕ) (ms : List Move) (f : TextFault) → TextSays c text ms → Tells (said_of ms) (Err f) → Prints c ms (Err f)

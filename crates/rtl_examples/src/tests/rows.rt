@@ -5,8 +5,7 @@ ghost use Rattle.rtl_tree.specs.Trees.{AnyNumber};
 
 use super::no_names;
 use rtl_simplify::normalise_effects;
-use rtl_spelling::OpenHole;
-use rtl_text::{TextFault, read_holed};
+use rtl_text::{OpenHole, TextFault, read_holed};
 use rtl_tree::{Effects, Expr, same};
 use rtl_word::W16;
 use std::alloc::{AllocError, Global};

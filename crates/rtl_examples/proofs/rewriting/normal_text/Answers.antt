@@ -35,9 +35,5 @@ returns-in_err-transfer-clause-only g c ms says =
 
 pub returns-clause-only : goal.returns-clause-only
 returns-clause-only g c ms says =
-    let moves : List Move = c.in_ok-transfer.transfer in
-    let names = printing_context g.W.Word.BITS c.args.names.now in
-    let same : said_of ms ≡ said_of moves = c.in_ok-transfer.ensures.only (said_of ms) says.spells in
-    let made : c.print_transfer.new.out.items ≡ text_of names (norm_moves g.W.Word.BITS moves) =
-        c.in_ok-print_transfer.ensures ∙ (ap (λ bytes. bytes ++ text_of names c.normalise_effects.new.e) c.new-out.ensures.items ∙ ap (text_of names) c.normalise_effects.ensures.moves) in
-    printed_alike names ms moves _ same made
+    printed_alike (printing_context g.W.Word.BITS c.args.names.now) ms c.in_ok-transfer.transfer c.normalise_effects.new.e c.new-out.result.items _
+    (c.in_ok-transfer.ensures.only (said_of ms) says.spells) c.normalise_effects.ensures.moves c.new-out.ensures.items c.in_ok-print_transfer.ensures

@@ -4,3 +4,4 @@ pub mod Cuts
 pub mod Collecting
 pub mod Spans
 pub mod Outcomes
+pub mod Reprinted

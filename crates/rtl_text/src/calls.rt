@@ -6,11 +6,12 @@ ghost use Rattle.rtl_word.specs.Words.{IsWordSize};
 ghost use Rattle.rtl_tree.specs.WellFormed.{IsWellFormed};
 ghost use Rattle.rtl_spelling.specs.Reading;
 ghost use Rattle.rtl_spelling.specs.Contract.{SpellsText, TextSays};
+ghost use Rattle.rtl_spelling.specs.Printing.{IsPrintable};
 ghost use Rattle.rtl_spelling.specs.Spelling.{AreApart, IsContext, Said};
 ghost use Rattle.rtl_spelling.specs.Tokens.{Lexes, spelled};
 ghost use Rattle.rtl_text.specs.Answering.{Outcome, Refuses, Tells, fault_at, gathered};
 ghost use Rattle.rtl_text.specs.Gives.{Gives};
-ghost use Rattle.rtl_text.specs.Seen.{context_of, reading_context, tokens_of};
+ghost use Rattle.rtl_text.specs.Seen.{context_of, printing_context, reading_context, tokens_of};
 
 use crate::context::Context;
 use crate::fault::TextFault;
@@ -67,7 +68,6 @@ fn answer(alloc: Global, c: &Context<'_>, text: &[u8], tokens: &[Token<'_>]) -> 
     requires lexes { Lexes text.now (tokens_of tokens.now) }
     ensures { Outcome (context_of c.now) text.now result }
 {
-    let _ = text.len();
     match reading(alloc, c, tokens) {
         Ok(Some(list)) => transfer_of(list),
         Ok(None) => Err(TextFault::IllFormed),
@@ -94,6 +94,7 @@ pub fn read_transfer<W: Word>(
 ) -> Result<Effects, TextFault>
     requires apart { AreApart n.now.objects n.now.functions }
     ensures found { IfOk result (λ e. TextSays (reading_context W.BITS n.now []) text.now e) }
+    ensures printable { IfOk result (λ e. IsPrintable (printing_context W.BITS n.now) e) }
     ensures refused { IfErr result (Refuses (reading_context W.BITS n.now []) text.now) }
     ensures only { (ss : List Said) → SpellsText (reading_context W.BITS n.now []) text.now ss → Tells ss result }
 {

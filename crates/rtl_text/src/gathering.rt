@@ -63,6 +63,7 @@ pub(crate) fn transfer<'t, 'a>(
         (collects (Some []) (Reading.transfer (context_of c.now) 31 (tokens_of tokens.now))) }
 {
     let mut made = Some(SmallVec::new(alloc));
+    // In a loop a slice of references takes the place of another only where a call gave both.
     let (_, mut rest) = tokens.split_at(0);
     for _ in 0..tokens.len() {
         let (a, is_last, behind) = item(alloc, c, rest)?;

@@ -1,5 +1,8 @@
 //! Texts with their transfers and faults, worked out by hand.
 
+ghost use Rattle.std.specs.Prelude.{◌≡◌, Contains, IfOk, List, ℕ};
+ghost use Rattle.rtl_spelling.specs.Spelling.{AreApart};
+
 use crate::{OpenHole, TextFault, print_transfer, read_holed, read_transfer};
 use rtl_tree::{Cell, Expr, Name, NameList, Names, NoMemory, is_name};
 use rtl_word::{W16, W32, Word};
@@ -7,7 +10,9 @@ use std::alloc::Global;
 use std::test::Fail;
 
 // The list of one name.
-fn one_name(alloc: Global, bytes: &[u8]) -> Result<NameList, NoMemory> {
+fn one_name(alloc: Global, bytes: &[u8]) -> Result<NameList, NoMemory>
+    ensures { IfOk result (λ list. (name : List ℕ) → Contains list name → name ≡ bytes.now) }
+{
     let mut list = NameList::new(alloc);
     if is_name(bytes) {
         let copy = Vec::from_slice(alloc, bytes)?;
@@ -17,7 +22,9 @@ fn one_name(alloc: Global, bytes: &[u8]) -> Result<NameList, NoMemory> {
 }
 
 // An object `x` and a function `main`.
-fn names(alloc: Global) -> Result<Names, NoMemory> {
+fn names(alloc: Global) -> Result<Names, NoMemory>
+    ensures { IfOk result (λ n. AreApart n.objects n.functions) }
+{
     let objects = one_name(alloc, b"x")?;
     let functions = one_name(alloc, b"main")?;
     Ok(Names { objects, functions })

@@ -1,9 +1,8 @@
 -- The numbers in what a text with holes spells are words, and so they are where a tree is put for a cell.
-use Rattle.std.proofs.Common.{◌≡◌, ℕ, ◌<◌, ◌^◌, true, false, Bool, Option, Some, None, List, [], ◌∷◌, get_or, subst}
+use Rattle.std.proofs.Common.{◌≡◌, ℕ, true, false, Bool, Option, Some, None, List, [], ◌∷◌, get_or, subst}
 use Rattle.std.specs.Prelude.{if◌then◌else◌}
 use Rattle.std.specs.Str.{bytes_eq}
-use Rattle.std.specs.List.{All, AllByRecursion}
-use Rattle.std.proofs.lemmas.List.Elements.{All-nil, All-cons}
+use Rattle.std.specs.List.{All}
 use Rattle.rtl_tree.specs.Trees.{Tree, Number, Symbol, CodeLabel, Read, Load, Unary, Binary, NoPair, AnyNumber, AnyName}
 use Rattle.rtl_tree.specs.Moves.{Goal, ToCell, ToMemory, Move}
 use Rattle.rtl_tree.specs.Sorts.{IsFitting}

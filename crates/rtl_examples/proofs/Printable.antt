@@ -1,18 +1,15 @@
 -- What a text without holes spells can be printed, and so can its normal form.
-use Rattle.std.proofs.Common.{◌≡◌, ℕ, ◌<◌, ◌^◌, Option, Some, None, List, [], ◌∷◌, length, map, get_or, slice_get, arith, refl, sym, ap, ◌∙◌}
+use Rattle.std.proofs.Common.{◌≡◌, ℕ, Some, List, [], ◌∷◌, get_or}
 use Rattle.std.specs.List.{All}
-use Rattle.std.proofs.lemmas.List.Elements.{All-nil, All-cons}
-use Rattle.std.proofs.lemmas.Option.{slice_get_within}
 use Rattle.rtl_word.specs.Words.{IsWordSize}
 use Rattle.rtl_tree.specs.Trees.{Tree, Number, Symbol, CodeLabel, Read, Load, Unary, Binary, NoPair, AnyNumber, AnyName}
 use Rattle.rtl_tree.specs.Moves.{Goal, ToCell, ToMemory, Move}
 use Rattle.rtl_tree.specs.Sorts.{IsFitting}
 use Rattle.rtl_tree.specs.declared.cells.Cell.{Cell}
-use Rattle.rtl_tree.specs.declared.cells.Cell.TheVariants.{Hard, Temp, Flag, Pc, Input, Output, Halt, Hole}
+use Rattle.rtl_tree.specs.declared.cells.Cell.TheVariants.{Hard, Flag, Hole}
 use Rattle.rtl_norm.specs.Transfers.{norm_moves, IsGoalFitting, IsMoveFitting}
 use Rattle.rtl_norm_form.proofs.Leaves.{AllLeaves, AllLeavesOfGoal, AllLeavesOfMove, moves_leaves}
 use Rattle.rtl_spelling.specs.Holes.{Open, leaf_named}
-use Rattle.rtl_spelling.specs.Tokens.{Token}
 use Rattle.rtl_spelling.specs.Spelling.{Context, Placed, IsSpelledCell, SpellsTransfer}
 use Rattle.rtl_spelling.specs.Printing.{IsPrintableTree, IsPrintableGoal, IsPrintableCell, IsPrintable}
 use Rattle.rtl_spelling.specs.Contract.{said_of}

@@ -1,8 +1,6 @@
-use Rattle.std.proofs.Common.{◌≡◌, List, [], ◌++◌, refl, sym, ap, ◌∙◌, subst}
-use Rattle.rtl_tree.specs.Moves.{Move}
+use Rattle.std.proofs.Common.{refl, sym, subst}
 use Rattle.rtl_tree.specs.WellFormed.{IsWellFormed}
-use Rattle.rtl_norm.specs.Transfers.{norm_moves}
-use Rattle.rtl_spelling.specs.Printing.{IsPrintable, text_of}
+use Rattle.rtl_spelling.specs.Printing.{IsPrintable}
 use Rattle.rtl_spelling.specs.Contract.{said_of}
 use Rattle.rtl_text.specs.Seen.{printing_context}
 use Rattle.rtl_examples.proofs.Reading.{IsRead, read_fits, normal_is_formed, normal_is_printable, printed_alike, no_fault, handed_on}

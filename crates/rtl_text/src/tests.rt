@@ -180,13 +180,25 @@ fn what_was_read_is_printed(rt: HostRuntime) -> Result<(), Fail> {
 #[test]
 fn numbers_have_their_words(rt: HostRuntime) -> Result<(), Fail> {
     let alloc = rt.alloc();
-    assert_eq!(rt; fault::<W16>(alloc, b"r[1] = 32768")?, Some(TextFault::BadForm(7)));
-    assert_eq!(rt; fault::<W16>(alloc, b"r[1] = -32769")?, Some(TextFault::BadForm(7)));
+    assert_eq!(rt;
+        fault::<W16>(alloc, b"r[1] = 32768")?,
+        Some(TextFault::BadForm(7))
+    );
+    assert_eq!(rt;
+        fault::<W16>(alloc, b"r[1] = -32769")?,
+        Some(TextFault::BadForm(7))
+    );
     assert_eq!(rt; fault::<W32>(alloc, b"r[1] = -32769")?, None);
     assert_eq!(rt; fault::<W32>(alloc, b"r[1] = 2147483647")?, None);
-    assert_eq!(rt; fault::<W32>(alloc, b"r[1] = 2147483648")?, Some(TextFault::BadForm(7)));
+    assert_eq!(rt;
+        fault::<W32>(alloc, b"r[1] = 2147483648")?,
+        Some(TextFault::BadForm(7))
+    );
     assert_eq!(rt; fault::<W32>(alloc, b"r[1] = -2147483648")?, None);
-    assert_eq!(rt; fault::<W32>(alloc, b"r[1] = -2147483649")?, Some(TextFault::BadForm(7)));
+    assert_eq!(rt;
+        fault::<W32>(alloc, b"r[1] = -2147483649")?,
+        Some(TextFault::BadForm(7))
+    );
     assert_eq!(rt;
         fault::<W32>(alloc, b"r[1] = 99999999999999999999999")?,
         Some(TextFault::BadForm(7))
@@ -200,13 +212,22 @@ fn depth_33_is_refused(rt: HostRuntime) -> Result<(), Fail> {
     let deepest = nested(alloc, b"r[1] = ", 31, b"1", b"")?;
     assert_eq!(rt; fault::<W16>(alloc, deepest.as_slice())?, None);
     let deeper = nested(alloc, b"r[1] = ", 32, b"1", b"")?;
-    assert_eq!(rt; fault::<W16>(alloc, deeper.as_slice())?, Some(TextFault::TooDeep(167)));
+    assert_eq!(rt;
+        fault::<W16>(alloc, deeper.as_slice())?,
+        Some(TextFault::TooDeep(167))
+    );
     let address = nested(alloc, b"M[", 30, b"1", b"] = 0")?;
     assert_eq!(rt; fault::<W16>(alloc, address.as_slice())?, None);
     let address = nested(alloc, b"M[", 31, b"1", b"] = 0")?;
-    assert_eq!(rt; fault::<W16>(alloc, address.as_slice())?, Some(TextFault::TooDeep(157)));
+    assert_eq!(rt;
+        fault::<W16>(alloc, address.as_slice())?,
+        Some(TextFault::TooDeep(157))
+    );
     let both = nested(alloc, b"r[1] = ", 32, b"lost", b"")?;
-    assert_eq!(rt; fault::<W16>(alloc, both.as_slice())?, Some(TextFault::BadForm(167)));
+    assert_eq!(rt;
+        fault::<W16>(alloc, both.as_slice())?,
+        Some(TextFault::BadForm(167))
+    );
     Ok(())
 }
 

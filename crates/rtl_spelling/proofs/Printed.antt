@@ -195,7 +195,7 @@ cell_within most d Output h = (stand most d h, tt)
 cell_within most d Halt h = (stand most d h, tt)
 cell_within most d (Hole n) h = tt
 
-cell_begun : (d : ℕ) (x : Cell) → tokens_in (begun d (cell_tokens x)) ≡ cell_tokens x
+pub cell_begun : (d : ℕ) (x : Cell) → tokens_in (begun d (cell_tokens x)) ≡ cell_tokens x
 cell_begun d (Hard n) = refl
 cell_begun d (Temp n) = refl
 cell_begun d (Flag n) = refl

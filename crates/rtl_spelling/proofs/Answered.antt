@@ -71,14 +71,14 @@ record Deepened (c : Context) (most : ℕ) (s : Stack) (ts : Tokens) (n : ℕ) :
   pub below_not : stands most depth ≡ false
   pub left : length (at ∷ rest) ≡ n
 
-abbrev Followed : Type 0
+abbrev pub Followed : Type 0
 Followed = Read (Unit {0})
 
 abbrev rest_in : Followed → Tokens
 rest_in (Ok x) = x.1
 rest_in (Err e) = []
 
-abbrev count_in : Followed → ℕ
+abbrev pub count_in : Followed → ℕ
 count_in (Ok x) = 0
 count_in (Err (Wrong n)) = n
 count_in (Err (Deep n)) = n
@@ -90,10 +90,10 @@ through_of c most s ts us _ (stopped ps x r t vs split run within none) e = absu
 through_of c most s ts us _ (at_end ps x r split run within) e = absurd cc
 through_of c most s ts us _ (too_deep ps x r new d t vs split run within goes under) e = absurd cc
 
-abbrev wrong_at : ℕ → Followed
+abbrev pub wrong_at : ℕ → Followed
 wrong_at n = Err (Wrong n)
 
-abbrev deep_at : ℕ → Followed
+abbrev pub deep_at : ℕ → Followed
 deep_at n = Err (Deep n)
 
 wrong_of : (c : Context) (most : ℕ) (s : Stack) (ts : Tokens) (n : ℕ) (a : Followed) → Trace c most s ts a → a ≡ wrong_at n → Stopped c most s ts n ⊎ Unfinished c s ts
@@ -228,7 +228,7 @@ hole_run c (x ∷ s) r (p ∷ (q ∷ ps)) name m u e h =
     name_run c (h.0 ++ s) r q ps name (appended_name h.0 s expects) second u h.2
 
 module _ (c : Context) (k : IsContext c) where
-  unknown_stops : (front : Tokens) (name : List ℕ) → leaf_named c.holes name ≡ None → Begins c (front ++ Mark sign.Less ∷ Word name ∷ []) → ⊥
+  pub unknown_stops : (front : Tokens) (name : List ℕ) → leaf_named c.holes name ≡ None → Begins c (front ++ Mark sign.Less ∷ Word name ∷ []) → ⊥
   unknown_stops front name u b =
       let run = begins_run c k (front ++ Mark sign.Less ∷ Word name ∷ []) b in
       let p = split_tokens run.0 front (Mark sign.Less ∷ Word name ∷ []) run.3 in
@@ -237,7 +237,7 @@ module _ (c : Context) (k : IsContext c) where
 
   -- ---- the three cases
 
-  abbrev Follows : Tokens → Followed → Type 0
+  abbrev pub Follows : Tokens → Followed → Type 0
   Follows ts a = follow c 32 start ts ≡ a
 
   trace_of : (ts : Tokens) → Trace c 32 start ts (follow c 32 start ts)
@@ -261,7 +261,7 @@ module _ (c : Context) (k : IsContext c) where
       }
 
   -- a fault of depth is where the automaton finds it
-  too_deep_at : (ts before : Tokens) → TooDeepAt c ts before → (n : ℕ) × Follows ts (deep_at n) × (length ts ≡ length before + n)
+  pub too_deep_at : (ts before : Tokens) → TooDeepAt c ts before → (n : ℕ) × Follows ts (deep_at n) × (length ts ≡ length before + n)
   too_deep_at ts before t =
       let r = run_split c t.front (t.at ∷ t.after) start [] (transfer_run c k t.said (t.front ++ t.at ∷ t.after) t.spells) in
       let ts_is : ts ≡ tokens_in t.front ++ t.at.token ∷ t.rest = t.split ∙ ap (λ l. l ++ t.at.token ∷ t.rest) (sym t.begins) in

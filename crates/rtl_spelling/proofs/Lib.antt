@@ -16,3 +16,4 @@ pub mod Shapes
 pub mod Lexed
 pub mod Printed
 pub mod Alone
+pub mod OneFault

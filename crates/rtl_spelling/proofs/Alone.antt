@@ -1,16 +1,15 @@
 -- Without holes a transfer has one spelling: what is printed.
-use Rattle.std.proofs.Common.{◌≡◌, ℕ, suc, ◌+◌, List, [], ◌∷◌, ◌++◌, length, get_or, Option, Some, None, refl, sym, ap, subst, ◌∙◌, arith}
-use Rattle.std.specs.Prelude.{codes, map}
+use Rattle.std.proofs.Common.{◌≡◌, ℕ, suc, List, [], ◌∷◌, ◌++◌, get_or, Option, Some, None, refl, sym, ap, ◌∙◌}
+use Rattle.std.specs.Prelude.{codes}
 use Rattle.std.proofs.lemmas.Option.{get_or_from_slice_get}
-use Rattle.rtl_tree.specs.declared.cells.Cell.{Cell}
 use Rattle.rtl_tree.specs.declared.expressions.UnOp.{UnOp}
 use Rattle.rtl_tree.specs.declared.expressions.UnOp.TheVariants.{Neg, Not, Sxb, Test}
-use Rattle.rtl_tree.specs.Trees.{Tree, Load, Unary, NoPair}
-use Rattle.rtl_tree.specs.Moves.{Goal, ToCell, ToMemory, Move}
+use Rattle.rtl_tree.specs.Trees.{Tree, Unary, NoPair}
+use Rattle.rtl_tree.specs.Moves.{Goal, Move}
 use Rattle.rtl_spelling.specs.declared.signs.Sign.TheVariants as sign
 use Rattle.rtl_spelling.specs.Tokens.{Token, Word, Mark, spelled}
 use Rattle.rtl_spelling.specs.Holes.{leaf_named}
-use Rattle.rtl_spelling.specs.Spelling.{Context, IsContext, Placed, starts, inner, mark, tokens_in, begun, cell_tokens, name_token, memory_tokens, memory_word, unary_word, operator_token, StandsBefore, Spells, number, symbol, function, block, cell, memory, unary, binary, test, hole, Said, SpellsPlace, to_cell, to_memory, to_hole, SpellsMove, value, lost, SpellsTransfer, last, more, becomes}
+use Rattle.rtl_spelling.specs.Spelling.{Context, Placed, inner, mark, tokens_in, name_token, memory_word, unary_word, operator_token, StandsBefore, Spells, number, symbol, function, block, cell, memory, unary, binary, test, hole, Said, SpellsPlace, to_cell, to_memory, to_hole, SpellsMove, value, lost, SpellsTransfer, last, more, becomes}
 use Rattle.rtl_spelling.specs.Printing.{tree_tokens, goal_tokens, move_tokens, tokens_behind, tokens_of, text_of}
 use Rattle.rtl_spelling.specs.Contract.{said_of, TextSays}
 use Rattle.rtl_spelling.proofs.Ends.{tokens_append}

@@ -1,8 +1,6 @@
 -- An automaton with a stack of what is expected, which reads one token at a time.
-use Rattle.std.specs.Prelude.{ℕ, zero, suc, ◌≡◌, nat_le, Bool, true, false, if◌then◌else◌, List, [], ◌∷◌, ◌++◌, Option, Some, None}
-use Rattle.rtl_tree.specs.declared.cells.Cell.{Cell}
+use Rattle.std.specs.Prelude.{ℕ, zero, suc, nat_le, Bool, true, if◌then◌else◌, List, [], ◌∷◌, ◌++◌, Option, Some, None}
 use Rattle.rtl_tree.specs.declared.expressions.BinOp.TheVariants.{Cmp}
-use Rattle.rtl_tree.specs.Trees.{Tree}
 use Rattle.rtl_spelling.specs.declared.signs.Sign.{Sign}
 use Rattle.rtl_spelling.specs.declared.signs.Sign.TheVariants as sign
 use Rattle.rtl_spelling.specs.declared.senses.Bank.{Bank}

@@ -1,17 +1,16 @@
 -- What the automaton passes over begins a spelling, and what begins one it passes over.
-use Rattle.std.proofs.Common.{◌≡◌, ℕ, zero, suc, ◌+◌, ◌≤◌, ◌<◌, Bool, true, false, List, [], ◌∷◌, ◌++◌, length, Option, Some, None, Ok, Err, refl, sym, ap, subst, ◌∙◌, append_assoc, arith, inl, inr}
-use Rattle.std.specs.Prelude.{◌⊎◌, All}
+use Rattle.std.proofs.Common.{◌≡◌, ℕ, zero, suc, ◌+◌, ◌≤◌, true, List, [], ◌∷◌, ◌++◌, Some, None, Ok, Err, refl, sym, ap, subst, ◌∙◌, append_assoc, arith}
 use Rattle.std.proofs.lemmas.List.{append-nil}
 use Rattle.std.proofs.lemmas.List.Elements.{All-nil, All-cons, All-head, All-tail}
 use Rattle.std.proofs.lemmas.Bool.{leb-true, le-leb}
 use Rattle.rtl_spelling.specs.Tokens.{Token}
 use Rattle.rtl_spelling.specs.Spelling.{Context, IsContext, Placed, tokens_in, Said, SpellsTransfer, AreWithin}
 use Rattle.rtl_spelling.specs.Faults.{Begins}
-use Rattle.rtl_spelling.specs.Reading.{Read, Trouble, Wrong, Deep, ◌>>=◌, gives, transfer}
+use Rattle.rtl_spelling.specs.Reading.{Read, ◌>>=◌, gives, transfer}
 use Rattle.rtl_spelling.proofs.Automaton.{Symbol, Stack, Step, step, start, stands, follow}
 use Rattle.rtl_spelling.proofs.Follow.{transfer_is}
 use Rattle.rtl_spelling.proofs.Runs.{Run, run_append, transfer_run}
-use Rattle.rtl_spelling.proofs.Completion.{AllMay, start_may, run_may, Completes, completes}
+use Rattle.rtl_spelling.proofs.Completion.{start_may, run_may, Completes, completes}
 use Rattle.rtl_spelling.proofs.Traces.{Within, run_followed, run_alike}
 use Rattle.rtl_spelling.proofs.Sound.{Transferred, transfer_spelled}
 use Rattle.rtl_spelling.proofs.Ends.{tokens_append}

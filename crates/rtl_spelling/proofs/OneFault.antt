@@ -1,19 +1,19 @@
 -- Tokens have one fault at one place, or none where they spell a transfer.
-use Rattle.std.proofs.Common.{◌≡◌, ℕ, suc, ◌+◌, ◌≤◌, ◌<◌, List, [], ◌∷◌, ◌++◌, length, None, refl, sym, ap, subst, ◌∙◌, append_assoc, arith, inl, inr}
+use Rattle.std.proofs.Common.{◌≡◌, ℕ, suc, ◌≤◌, List, [], ◌∷◌, ◌++◌, length, None, refl, sym, ap, subst, ◌∙◌, append_assoc, arith, inl, inr}
 use Rattle.std.proofs.lemmas.List.{length-append, append-nil, append_cancel_left}
-use Rattle.std.proofs.lemmas.Bool.{cases_lt, cases_order}
+use Rattle.std.proofs.lemmas.Bool.{cases_lt}
 use Rattle.rtl_spelling.specs.declared.signs.Sign.TheVariants as sign
 use Rattle.rtl_spelling.specs.Tokens.{Token, Word, Mark}
 use Rattle.rtl_spelling.specs.Holes.{leaf_named}
 use Rattle.rtl_spelling.specs.Spelling.{Context, IsContext, tokens_in, Said, IsSpelled}
-use Rattle.rtl_spelling.specs.Faults.{Begins, FirstBad, IsNameOfUnknown, BadFormAt, unexpected, unknown_hole, TooDeepAt, FormFault, DepthFault}
+use Rattle.rtl_spelling.specs.Faults.{Begins, FirstBad, IsNameOfUnknown, BadFormAt, unexpected, unknown_hole, TooDeepAt}
 use Rattle.rtl_spelling.specs.Law.{OneFault}
-use Rattle.rtl_spelling.specs.Reading.{gives, deep}
+use Rattle.rtl_spelling.specs.Reading.{gives}
 use Rattle.rtl_spelling.proofs.Automaton.{start, follow}
 use Rattle.rtl_spelling.proofs.Runs.{transfer_run}
 use Rattle.rtl_spelling.proofs.Traces.{run_followed}
 use Rattle.rtl_spelling.proofs.Begun.{within_to, run_begins, fewer_begin}
-use Rattle.rtl_spelling.proofs.Answered.{Followed, deep_at, count_in, Middle, middle_of, unknown_stops, too_deep_at}
+use Rattle.rtl_spelling.proofs.Answered.{deep_at, count_in, Middle, middle_of, unknown_stops, too_deep_at}
 
 abbrev Tokens : Type 0
 Tokens = List Token
@@ -123,7 +123,7 @@ module _ (c : Context) (k : IsContext c) where
   spelled_not_deep ms ts a s h =
       let x = too_deep_at c k ts a h in
       let through : follow c 32 start (tokens_in s.placed ++ []) ≡ gives tt [] =
-            run_followed c 32 s.placed start [] [] (transfer_run c k ms s.placed s.spells) (within_to 32 s.placed s.within) in
+      run_followed c 32 s.placed start [] [] (transfer_run c k ms s.placed s.spells) (within_to 32 s.placed s.within) in
       let wrong : gives tt [] ≡ deep_at x.0 = sym through ∙ ap (follow c 32 start) (append-nil (tokens_in s.placed) ∙ s.tokens) ∙ x.1 in
       absurd cc
 

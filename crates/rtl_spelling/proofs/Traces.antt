@@ -1,13 +1,12 @@
 -- What the automaton's way says of its runs.
-use Rattle.std.proofs.Common.{◌≡◌, ℕ, zero, suc, ◌+◌, ◌≤◌, ◌<◌, Bool, true, false, List, [], ◌∷◌, ◌++◌, length, Option, Some, None, Ok, Err, refl, sym, ap, subst, ◌∙◌, append_assoc, arith}
-use Rattle.std.specs.Prelude.{cond, nat_le}
+use Rattle.std.proofs.Common.{◌≡◌, ℕ, Bool, true, false, List, [], ◌∷◌, ◌++◌, length, Some, None, refl, sym, ap, subst, ◌∙◌, arith}
+use Rattle.std.specs.Prelude.{cond}
 use Rattle.std.specs.List.{AllByRecursion}
-use Rattle.std.proofs.lemmas.Bool.{leb-true}
 use Rattle.rtl_spelling.specs.Tokens.{Token}
 use Rattle.rtl_spelling.specs.Spelling.{Context, Placed, tokens_in}
-use Rattle.rtl_spelling.specs.Reading.{Read, Trouble, Wrong, Deep, gives, wrong, deep}
+use Rattle.rtl_spelling.specs.Reading.{Read, gives, wrong, deep}
 use Rattle.rtl_spelling.proofs.Automaton.{Symbol, Stack, Step, step, stands, followed, follow}
-use Rattle.rtl_spelling.proofs.Runs.{Run, run_append}
+use Rattle.rtl_spelling.proofs.Runs.{Run}
 
 abbrev pub Within : ℕ → List Placed → Type 0
 Within most ps = AllByRecursion (λ p. stands most p.depth ≡ true) ps

@@ -7,7 +7,7 @@ use Rattle.rtl_spelling.specs.Tokens.{Token, Mark, Lexes, Stuck}
 use Rattle.rtl_spelling.specs.Spelling.{Context, IsContext, Said, IsSpelled}
 use Rattle.rtl_spelling.specs.Faults.{FormFault, DepthFault}
 use Rattle.rtl_spelling.specs.Printing.{text_of, IsPrintable, IsTyped}
-use Rattle.rtl_spelling.specs.Contract.{said_of, SpellsText, TextSays}
+use Rattle.rtl_spelling.specs.Contract.{SpellsText, TextSays}
 use Rattle.rtl_spelling.specs.Reading.{Trouble, Wrong, Deep, reading}
 
 abbrev pub ends : List Token → ℕ

@@ -14,7 +14,7 @@ use Rattle.rtl_spelling.specs.Spelling.{Context, IsContext, Placed, tokens_in, S
 use Rattle.rtl_spelling.specs.Faults.{Begins, IsNameOfUnknown, BadFormAt, unexpected, unknown_hole, TooDeepAt}
 use Rattle.rtl_spelling.specs.Law.{IsEnded, FormFaultLeaves, Answers}
 use Rattle.rtl_spelling.specs.Reading.{Read, Wrong, Deep, ◌>>=◌, gives, deep, is_sign, is_unknown, is_unknown_hole, last_tokens, answer, reading, transfer, has_holes}
-use Rattle.rtl_spelling.proofs.Automaton.{Symbol, ATree, Inside, Operator, Tested, AfterRelation, Exactly, Index, HoleName, Place, Value, After, Stack, Step, below, on_found, step, start, stands, follow}
+use Rattle.rtl_spelling.proofs.Automaton.{Symbol, ATree, Inside, Operator, Tested, AfterRelation, Exactly, Index, HoleName, Place, Value, After, Stack, Step, below, on_found, step, start, stands, some_step, new_of, follow}
 use Rattle.rtl_spelling.proofs.Follow.{transfer_is}
 use Rattle.rtl_spelling.proofs.Runs.{Run, run_append, transfer_run}
 use Rattle.rtl_spelling.proofs.Traces.{Within, Trace, through, stopped, at_end, too_deep, traced, run_followed, deep_followed, run_alike}
@@ -164,10 +164,6 @@ front_hole c name rest e = rw e refl
 
 -- ---- a hole that isn't open is passed nowhere
 
-abbrev new_of : Step → Stack
-new_of (Some y) = y.1
-new_of None = []
-
 abbrev head_symbol : Stack → Symbol
 head_symbol [] = After
 head_symbol (x ∷ s) = x
@@ -178,9 +174,6 @@ record ExpectsName (new : Stack) : Type 0 where
 
 abbrev holed : ℕ → Bool → Step
 holed d b = cond b (Some (d, HoleName ∷ Exactly sign.Greater ∷ [])) None
-
-abbrev some_step : ℕ → Stack → Step
-some_step d s = Some (d, s)
 
 on_holes : (b : Bool) (d e : ℕ) (new : Stack) → holed d b ≡ some_step e new → ExpectsName new
 on_holes true d e new h = record { more = Exactly sign.Greater ∷ []; is = sym (ap new_of h) }

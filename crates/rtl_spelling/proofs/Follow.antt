@@ -1,6 +1,5 @@
 -- The reading goes the way of the automaton.
 use Rattle.std.proofs.Common.{◌≡◌, ℕ, zero, suc, ◌+◌, ◌≤◌, Bool, true, false, cond, if◌then◌else◌, List, [], ◌∷◌, ◌++◌, length, Option, Some, None, Ok, Err, refl, sym, ap, subst, ◌∙◌, append_assoc, arith}
-use Rattle.std.proofs.lemmas.Bool.{le-leb, lt-leb}
 use Rattle.rtl_word.specs.declared.Rel.{Rel}
 use Rattle.rtl_tree.specs.declared.cells.Cell.{Cell}
 use Rattle.rtl_tree.specs.declared.expressions.UnOp.{UnOp}
@@ -19,7 +18,7 @@ use Rattle.rtl_spelling.specs.Tokens.{Token}
 use Rattle.rtl_spelling.specs.Spelling.{Context, Said, goal_of_leaf}
 use Rattle.rtl_spelling.specs.Senses.{sense_of, cell_at}
 use Rattle.rtl_spelling.specs.Reading.{Read, ◌>>=◌, head_of, rest_of, gives, wrong, deep, is_sign, expect, index_on, index, hole_on, leaf_at, has_holes, hole, too_deep, Reader, address, right, operator_on, operator, after_relation, tested_on, tested, inside_on, inside, tree_on, tree, place_on, place, value_on, value, move, moves, transfer}
-use Rattle.rtl_spelling.proofs.Automaton.{Symbol, ATree, Inside, Operator, Tested, AfterRelation, Exactly, Index, HoleName, Place, Value, After, Stack, Step, below, tree_step, right_of, operator_step, tested_step, inside_step, place_step, value_step, start, on_test, on_found, step, stands, followed, follow}
+use Rattle.rtl_spelling.proofs.Automaton.{Symbol, ATree, Inside, Operator, Tested, AfterRelation, Exactly, Index, HoleName, Place, Value, After, Stack, Step, below, tree_step, right_of, operator_step, tested_step, inside_step, place_step, value_step, start, on_test, on_found, step, stands, stand, past, followed, follow}
 
 pub bind_assoc : {A B C : Type 0} (m : Read A) (g : A → List Token → Read B) (h : B → List Token → Read C) → ((m >>= g) >>= h) ≡ (m >>= λ x us. g x us >>= h)
 bind_assoc (Ok x) g h = refl
@@ -139,22 +138,24 @@ module _ (c : Context) (most : ℕ) where
       → follow c most (Exactly sign.Space ∷ Operator d ∷ s) ts ≡ (operator c R a ts >>= onward c most s)
   operator_follows d R a r s ts = and_part (expect sign.Space) _ (exactly sign.Space) _ ts (onward c most s) (λ _ us. operator_is d R a r s us)
 
-  space_is : (b : Bool) (d : ℕ) (R : Reader) (o : BinOp) (a : Tree) → Reads (suc d) R → (s : Stack) (t : Token) (ts : List Token) → is_sign sign.Space t ≡ b
-      → followed most (on_test b (right_of d) None) (t ∷ ts) (λ new. follow c most (new ++ s) ts) ≡ (right R o a (t ∷ ts) >>= onward c most s)
-  space_is b d R o a r s t ts e =
-      sym (ap (λ b. followed most (on_test b (right_of d) None) (t ∷ ts) (λ new. follow c most (new ++ s) ts)) e)
-      ∙ through (is_sign sign.Space t) ∙ right_is d R o a r s (t ∷ ts)
-    where
-      through : (b : Bool) → followed most (on_test b (right_of d) None) (t ∷ ts) (λ new. follow c most (new ++ s) ts)
-          ≡ followed most (on_test b [] None) (t ∷ ts) (λ new. follow c most (new ++ (ATree (suc d) ∷ Exactly sign.RightParen ∷ s)) ts)
-      through true = refl
-      through false = refl
+  pushed_on :
+      (b : Bool) (d : ℕ) (s : Stack) (t : Token) (ts : List Token)
+      → followed most (on_test b (right_of d) None) (t ∷ ts) (λ new. follow c most (new ++ s) ts)
+      ≡ followed most (on_test b [] None) (t ∷ ts) (λ new. follow c most (new ++ (ATree (suc d) ∷ Exactly sign.RightParen ∷ s)) ts)
+  pushed_on true d s t ts = refl
+  pushed_on false d s t ts = refl
+
+  space_is :
+      (d : ℕ) (R : Reader) (o : BinOp) (a : Tree) → Reads (suc d) R → (s : Stack) (t : Token) (ts : List Token)
+      → followed most (on_test (is_sign sign.Space t) (right_of d) None) (t ∷ ts) (λ new. follow c most (new ++ s) ts)
+      ≡ (right R o a (t ∷ ts) >>= onward c most s)
+  space_is d R o a r s t ts = pushed_on (is_sign sign.Space t) d s t ts ∙ right_is d R o a r s (t ∷ ts)
 
   after_relation_on : (b : Bool) (d : ℕ) (R : Reader) (r : Rel) (a : Tree) → Reads (suc d) R → (s : Stack) (t : Token) (ts : List Token)
       → followed most (on_test b [] (on_test (is_sign sign.Space t) (right_of d) None)) (t ∷ ts) (λ new. follow c most (new ++ s) ts)
       ≡ (cond b (gives (Unary (Test r) a) ts) (right R (Cmp r) a (t ∷ ts)) >>= onward c most s)
   after_relation_on true d R r a read s t ts = refl
-  after_relation_on false d R r a read s t ts = space_is (is_sign sign.Space t) d R (Cmp r) a read s t ts refl
+  after_relation_on false d R r a read s t ts = space_is d R (Cmp r) a read s t ts
 
   after_relation_is : (d : ℕ) (R : Reader) (r : Rel) (a : Tree) → Reads (suc d) R → (s : Stack) (ts : List Token)
       → follow c most (AfterRelation d ∷ s) ts ≡ (after_relation R r a ts >>= onward c most s)
@@ -251,20 +252,12 @@ module _ (c : Context) (most : ℕ) where
   too_deep_is d h s t ts (sense.Sign sign.Less) = deep_hole (has_holes c.holes) d h s t ts
   too_deep_is d h s t ts _ = refl
 
-  stands_not : (d : ℕ) → zero + d ≡ suc most → stands most d ≡ false
-  stands_not zero e = absurd (omega (arith, e))
-  stands_not (suc d) e = lt-leb (suc d) most (omega (arith, e))
-
-  pub stands_yes : (d : ℕ) → d ≤ most → stands most d ≡ true
-  stands_yes zero e = refl
-  stands_yes (suc d) e = le-leb (suc d) most e
-
   tree_is : (f d : ℕ) → f + d ≡ suc most → (s : Stack) (ts : List Token) → follow c most (ATree d ∷ s) ts ≡ (tree c f ts >>= onward c most s)
   tree_is zero d e s [] = refl
-  tree_is zero d e s (t ∷ ts) = too_deep_is d (stands_not d e) s t ts (sense_of c t)
+  tree_is zero d e s (t ∷ ts) = too_deep_is d (past most d (omega (arith, e))) s t ts (sense_of c t)
   tree_is (suc f) d e s [] = refl
   tree_is (suc f) d e s (t ∷ ts) =
-      tree_on_is d (tree c f) (stands_yes d (omega (arith, e))) (record { is = tree_is f (suc d) (omega (arith, e)) }) s t ts (sense_of c t)
+      tree_on_is d (tree c f) (stand most d (omega (arith, e))) (record { is = tree_is f (suc d) (omega (arith, e)) }) s t ts (sense_of c t)
 
   pub tree_follows : (f d : ℕ) → f + d ≡ suc most → Reads d (tree c f)
   tree_follows f d e = record { is = tree_is f d e }
@@ -273,15 +266,15 @@ module _ (c : Context) (most : ℕ) where
 
   place_on_is : (R : Reader) → 1 ≤ most → Reads 2 R → (s : Stack) (t : Token) (ts : List Token) (v : Sense)
       → followed most (place_step c v) (t ∷ ts) (λ new. follow c most (new ++ s) ts) ≡ (place_on c R (t ∷ ts) v >>= onward c most s)
-  place_on_is R h r s t ts (sense.Cell n) = rw (stands_yes 1 h) refl
+  place_on_is R h r s t ts (sense.Cell n) = rw (stand most 1 h) refl
   place_on_is R h r s t ts (sense.Bank b) =
-      rw (stands_yes 1 h) (index_is b s ts (λ x us. follow c most s us) (λ _ us. refl)
+      rw (stand most 1 h) (index_is b s ts (λ x us. follow c most s us) (λ _ us. refl)
       ∙ sym (bind_assoc (index b ts) (λ x us. gives (Some (ToCell x)) us) (onward c most s)))
   place_on_is R h r s t ts (sense.Memory w) =
-      rw (stands_yes 1 h) (address_is 2 R r s ts (λ x us. follow c most s us) (λ _ us. refl)
+      rw (stand most 1 h) (address_is 2 R r s ts (λ x us. follow c most s us) (λ _ us. refl)
       ∙ sym (bind_assoc (address R ts) (λ a us. gives (Some (ToMemory w a)) us) (onward c most s)))
   place_on_is R h r s t ts (sense.Sign sign.Less) =
-      hole_is (has_holes c.holes) 1 (stands_yes 1 h) s t ts (λ x us. follow c most s us) (λ _ us. refl)
+      hole_is (has_holes c.holes) 1 (stand most 1 h) s t ts (λ x us. follow c most s us) (λ _ us. refl)
       ∙ sym (bind_assoc (hole c (t ∷ ts)) (λ x us. gives (goal_of_leaf x) us) (onward c most s))
   place_on_is R h r s t ts _ = refl
 

@@ -134,9 +134,6 @@ Written [] = ⊥
 Written (t ∷ []) = t ≡ Mark sign.End
 Written (t ∷ (u ∷ us)) = IsToken t × MayFollow t u × Written (u ∷ us)
 
-written_token : (t u : Token) (us : List Token) → Written (t ∷ u ∷ us) → IsToken t
-written_token t u us w = w.0
-
 any_end : (t : Token) (rest : List ℕ) → ((m : ℕ) → EndsAt t m) → Ended t rest
 any_end t [] h = tt
 any_end t (m ∷ ms) h = h m

@@ -1,5 +1,5 @@
 -- What is printed spells what was printed.
-use Rattle.std.proofs.Common.{◌≡◌, ℕ, zero, suc, ◌+◌, ◌-◌, ◌^◌, ◌≤◌, ◌<◌, Bool, true, not, ◌&&◌, eqb, List, [], ◌∷◌, ◌++◌, length, get_or, Option, Some, refl, sym, ap, subst, ◌∙◌, append_assoc, arith, inl, inr}
+use Rattle.std.proofs.Common.{◌≡◌, ℕ, zero, suc, ◌+◌, ◌-◌, ◌^◌, ◌≤◌, ◌<◌, true, not, ◌&&◌, eqb, List, [], ◌∷◌, ◌++◌, length, get_or, Option, Some, refl, sym, ap, subst, ◌∙◌, append_assoc, arith, inl, inr}
 use Rattle.std.specs.Prelude.{◌⊎◌, codes, decimal, nat_le, All}
 use Rattle.std.specs.Fmt.{signed_decimal}
 use Rattle.std.specs.Char.{is_ascii_digit}
@@ -7,7 +7,8 @@ use Rattle.std.specs.List.{AllPass, list_all}
 use Rattle.std.proofs.lemmas.Bool.{and_parts, and_from, ne_eqb, lt-ltb, le-ltb, leb-true, cases_lt}
 use Rattle.std.proofs.lemmas.Bool.Decides.{nat_tests}
 use Rattle.std.proofs.lemmas.Fmt.{digits_decimal, decimal_nonempty, first_decimal, decimal_digit}
-use Rattle.std.proofs.lemmas.List.Elements.{All-nil, All-cons, All-head, All-tail, All-weaker, All-get_or}
+use Rattle.std.proofs.lemmas.List.Elements.{All-head, All-tail, All-weaker, All-get_or}
+use Rattle.std.proofs.lemmas.List.Sums.{AllPass-from_list_all}
 use Rattle.std.proofs.lemmas.Option.{slice_get-get_or}
 use Rattle.asm_token.specs.Tokens.{is_name_start, is_name_byte}
 use Rattle.asm_token.proofs.Bytes.{digit_is_name}
@@ -36,22 +37,19 @@ use Rattle.rtl_spelling.specs.Spelling.{Context, IsContext, Placed, starts, inne
 use Rattle.rtl_spelling.specs.Printing.{tree_tokens, goal_tokens, move_tokens, tokens_of, text_of, IsPrintableCell, IsPrintableTree, IsPrintableGoal, IsPrintable, IsTypedCell, IsTypedTree, IsTypedGoal, IsTyped}
 use Rattle.rtl_spelling.specs.Contract.{said_of, TextSays}
 use Rattle.rtl_spelling.proofs.Traces.{Within}
-use Rattle.rtl_spelling.proofs.Begun.{stand, within_from}
+use Rattle.rtl_spelling.proofs.Automaton.{stand}
+use Rattle.rtl_spelling.proofs.Begun.{within_from}
 use Rattle.rtl_spelling.proofs.Numbers.{AreDigits, own}
 use Rattle.rtl_spelling.proofs.Ends.{tokens_append}
 use Rattle.rtl_spelling.proofs.Lexed.{MayFollow, Written, written_lexed}
 
 -- ---- the tokens are tokens
 
-all_pass : (p : ℕ → Bool) (xs : List ℕ) → list_all p xs ≡ true → AllPass p xs
-all_pass p [] h = All-nil (λ x. p x ≡ true)
-all_pass p (x ∷ xs) h = let r = and_parts (p x) (list_all p xs) h in All-cons (λ x. p x ≡ true) x xs r.0 (all_pass p xs r.1)
-
 magnitude_of : (ds : List ℕ) → AreDigits ds → 0 < length ds → 48 < get_or ds 0 0 → IsMagnitude ds
 magnitude_of [] a l h = absurd (omega (arith, l))
 magnitude_of (d ∷ ds) a l h =
     let r = and_parts (is_ascii_digit d) (list_all is_ascii_digit ds) a in
-    (and_from (is_ascii_digit d) (not (eqb d 48)) r.0 (ap not (ne_eqb d 48 (λ e. omega (arith, h, e)))), all_pass is_ascii_digit ds r.1)
+    (and_from (is_ascii_digit d) (not (eqb d 48)) r.0 (ap not (ne_eqb d 48 (λ e. omega (arith, h, e)))), AllPass-from_list_all is_ascii_digit ds r.1)
 
 decimal_magnitude : (n : ℕ) → 0 < n → n < 2 ^ 64 → IsMagnitude (decimal n)
 decimal_magnitude n some small = magnitude_of (decimal n) (digits_decimal own n small) (decimal_nonempty n small) (first_decimal n some small)
@@ -84,7 +82,7 @@ name_is_token ns k h l = (refl, name_bytes (get_or ns k []) (All-get_or IsCName 
 
 block_is_token : (k : ℕ) → k < 2 ^ 64 → IsToken (Word (76 ∷ decimal k))
 block_is_token k small =
-    (refl, All-weaker (λ b. is_ascii_digit b ≡ true) (λ b. is_name_byte b ≡ true) digit_is_name (decimal k) (all_pass is_ascii_digit (decimal k) (digits_decimal own k small)))
+    (refl, All-weaker (λ b. is_ascii_digit b ≡ true) (λ b. is_name_byte b ≡ true) digit_is_name (decimal k) (AllPass-from_list_all is_ascii_digit (decimal k) (digits_decimal own k small)))
 
 -- ---- written tokens
 
@@ -93,7 +91,7 @@ cons_written t [] h f w = absurd w
 cons_written t (u ∷ us) h f w = (h, f u, w)
 
 word_token : (b : ℕ) (bs : List ℕ) → is_name_start b ≡ true → list_all is_name_byte bs ≡ true → IsToken (Word (b ∷ bs))
-word_token b bs h k = (h, all_pass is_name_byte bs k)
+word_token b bs h k = (h, AllPass-from_list_all is_name_byte bs k)
 
 relation_token : (r : Rel) → IsToken (Word (relation_word r))
 relation_token Eq = word_token 101 (codes "q") refl refl

@@ -50,9 +50,6 @@ module _ (c : Context) where
   pub exactly_step : (s : Sign) → step c (Exactly s) (Mark s) ≡ Some (0, [])
   exactly_step s = ap (λ b. on_test b [] None) (same_sign_itself s)
 
-  pub exactly_run : (g : Sign) (qs : List Placed) (s r : Stack) → Run c s qs r → Run c (Exactly g ∷ s) (mark g ∷ qs) r
-  exactly_run g qs s r k = ([], exactly_step g, k)
-
   brackets_run : (b : Bank) (n : ℕ) → n < bank_size b → (s : Stack)
       → Run c (Exactly sign.LeftBracket ∷ Index b ∷ Exactly sign.RightBracket ∷ s) (mark sign.LeftBracket ∷ inner (Number (decimal n)) ∷ mark sign.RightBracket ∷ []) s
   brackets_run b n l s = ([], refl, ([], ap on_found (index_told b n l), ([], refl, refl)))
@@ -133,9 +130,6 @@ module _ (c : Context) where
 
   abbrev Left : ℕ → Stack → Symbol → List Placed → Type 0
   Left d s x ps = Run c (Inside d ∷ s) ps (Exactly sign.Space ∷ x ∷ s)
-
-  below_step : (S : Stack) (o : Step) (d : ℕ) (new : Stack) → o ≡ Some (d, new) → below S o ≡ Some (d, new ++ S)
-  below_step S o d new e = ap (below S) e
 
   left_from : (d : ℕ) (p : Placed) (ps : List Placed) (s : Stack) (x : Symbol) (new : Stack)
       → inside_step c d (sense_of c p.token) ≡ Some (p.depth, new ++ Exactly sign.Space ∷ x ∷ []) → Run c (new ++ Exactly sign.Space ∷ x ∷ s) ps (Exactly sign.Space ∷ x ∷ s)

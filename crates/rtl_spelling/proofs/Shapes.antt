@@ -175,9 +175,6 @@ longer_than_arrow : (ds ms : List ℕ) (m : ℕ) → IsMagnitude ds → ds ++ m 
 longer_than_arrow [] ms m h e = absurd h
 longer_than_arrow (d ∷ ds) ms m h e = omega (arith, ap length e, length-append ds (m ∷ ms))
 
-minus_start : (b : ℕ) → b ≡ 45 → is_name_byte b ≡ false
-minus_start b e = ap is_name_byte e
-
 negative_no_longer : (b m : ℕ) (ds ms : List ℕ) → b ≡ 45 → IsMagnitude ds → is_name_byte m ≡ false → Shape b (ds ++ m ∷ ms) → ⊥
 negative_no_longer b m ds ms e h n (word k all) = absurd (let z : is_name_start 45 ≡ true = ap is_name_start (sym e) ∙ k in cc)
 negative_no_longer b m ds ms e h n (zero_alone f g) = some_more ds ms m g

@@ -4,7 +4,7 @@ ghost use Rattle.std.specs.Prelude.{◌≡◌, Contains, IfOk, List, ℕ};
 ghost use Rattle.rtl_spelling.specs.Spelling.{AreApart};
 
 use crate::{OpenHole, TextFault, print_transfer, read_holed, read_transfer};
-use rtl_tree::{Cell, Expr, Name, NameList, Names, NoMemory, is_name};
+use rtl_tree::{Cell, Effects, Expr, Name, NameList, Names, NoMemory, Place, Width, is_name};
 use rtl_word::{W16, W32, Word};
 use std::alloc::Global;
 use std::test::Fail;
@@ -245,5 +245,28 @@ fn holes_are_filled(rt: HostRuntime) -> Result<(), Fail> {
     for (text, expected) in table {
         assert_eq!(rt; holed_fault(rt.alloc(), text)?, expected);
     }
+    Ok(())
+}
+
+// Whether this is the one assignment of 5 to the word at register 3.
+fn stores_five(effects: &Effects) -> bool {
+    match effects.list.as_slice() {
+        [a] => {
+            matches!(&a.to, Place::Mem(Width::Full, Expr::Cell(Cell::Hard(3))))
+                && matches!(&a.value, Expr::Num(5))
+        }
+        _ => false,
+    }
+}
+
+#[test]
+fn a_hole_becomes_its_leaf(rt: HostRuntime) -> Result<(), Fail> {
+    let alloc = rt.alloc();
+    let names = names(alloc)?;
+    let holes = holes(alloc)?;
+    let Ok(effects) = read_holed::<W32>(alloc, b"M[<d>] = <k>", &names, &holes) else {
+        panic!(rt; "a text with holes was refused");
+    };
+    assert!(rt; stores_five(&effects));
     Ok(())
 }

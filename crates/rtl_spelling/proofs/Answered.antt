@@ -1,20 +1,20 @@
 -- The reading answers what is spelled, or where the fault is.
 use Rattle.std.proofs.Common.{◌≡◌, ℕ, zero, suc, ◌+◌, ◌-◌, ◌≤◌, ◌<◌, Bool, true, false, List, [], ◌∷◌, ◌++◌, length, Option, Some, None, Ok, Err, refl, sym, ap, subst, ◌∙◌, append_assoc, arith, inl, inr}
-use Rattle.std.specs.Prelude.{◌⊎◌, cond, nat_lt, ◌&&◌, drop, take, Result}
+use Rattle.std.specs.Prelude.{◌⊎◌, cond, nat_lt, ◌&&◌, drop, take}
 use Rattle.std.specs.Option.{is_none}
 use Rattle.std.proofs.lemmas.List.{append-nil, length-append, length-take, length-map, take-append-drop, append_cancel_right}
 use Rattle.std.proofs.Math.Seq.{drop-append_seam}
-use Rattle.std.proofs.lemmas.Bool.{and_parts, and_from, ltb-true, lt-ltb, lt-leb, leb-false, cases_lt, cases_order}
+use Rattle.std.proofs.lemmas.Bool.{and_parts, and_from, ltb-true, lt-ltb, leb-false, cases_lt, cases_order}
 use Rattle.rtl_tree.specs.Trees.{Tree}
 use Rattle.rtl_spelling.specs.declared.signs.Sign.{Sign}
 use Rattle.rtl_spelling.specs.declared.signs.Sign.TheVariants as sign
 use Rattle.rtl_spelling.specs.Tokens.{Token, Word, Number, Mark}
 use Rattle.rtl_spelling.specs.Holes.{leaf_named}
-use Rattle.rtl_spelling.specs.Spelling.{Context, IsContext, Placed, tokens_in, Said, SpellsTransfer, AreWithin, IsSpelled}
-use Rattle.rtl_spelling.specs.Faults.{Begins, FirstBad, IsNameOfUnknown, BadFormAt, unexpected, unknown_hole, TooDeepAt, FormFault, DepthFault}
-use Rattle.rtl_spelling.specs.Law.{ends, IsEnded, Leaves, FormFaultLeaves, DepthFaultLeaves, Answers}
-use Rattle.rtl_spelling.specs.Reading.{Read, Trouble, Wrong, Deep, ◌>>=◌, head_of, rest_of, gives, wrong, deep, is_sign, is_unknown, is_unknown_hole, last_tokens, settled, answer, reading, transfer, leaf_at, has_holes}
-use Rattle.rtl_spelling.proofs.Automaton.{Symbol, ATree, Inside, Operator, Tested, AfterRelation, Exactly, Index, HoleName, Place, Value, After, Stack, Step, below, on_found, step, start, stands, follow}
+use Rattle.rtl_spelling.specs.Spelling.{Context, IsContext, Placed, tokens_in, Said, SpellsTransfer, IsSpelled}
+use Rattle.rtl_spelling.specs.Faults.{Begins, IsNameOfUnknown, BadFormAt, unexpected, unknown_hole, TooDeepAt}
+use Rattle.rtl_spelling.specs.Law.{IsEnded, FormFaultLeaves, Answers}
+use Rattle.rtl_spelling.specs.Reading.{Read, Wrong, Deep, ◌>>=◌, gives, deep, is_sign, is_unknown, is_unknown_hole, last_tokens, answer, reading, transfer, has_holes}
+use Rattle.rtl_spelling.proofs.Automaton.{Symbol, ATree, Inside, Operator, Tested, AfterRelation, Exactly, Index, HoleName, Place, Value, After, Stack, Step, below, on_found, step, start, stands, some_step, new_of, follow}
 use Rattle.rtl_spelling.proofs.Follow.{transfer_is}
 use Rattle.rtl_spelling.proofs.Runs.{Run, run_append, transfer_run}
 use Rattle.rtl_spelling.proofs.Traces.{Within, Trace, through, stopped, at_end, too_deep, traced, run_followed, deep_followed, run_alike}
@@ -24,7 +24,7 @@ use Rattle.rtl_spelling.proofs.Sound.{Transferred, transfer_spelled}
 use Rattle.rtl_spelling.proofs.Complete.{transfer_reads}
 use Rattle.rtl_spelling.proofs.Ends.{Bodied, transfer_ended, one_end, tokens_append}
 use Rattle.rtl_spelling.proofs.Depths.{next_shallow}
-use Rattle.rtl_spelling.proofs.Begun.{stand, within_from, within_to, run_split, run_end, Split, split_tokens, Begun, begun, run_begins, begins_run, stops, fewer_begin}
+use Rattle.rtl_spelling.proofs.Begun.{within_from, within_to, run_split, split_tokens, Begun, begun, run_begins, begins_run, stops, fewer_begin}
 
 abbrev Tokens : Type 0
 Tokens = List Token
@@ -71,14 +71,14 @@ record Deepened (c : Context) (most : ℕ) (s : Stack) (ts : Tokens) (n : ℕ) :
   pub below_not : stands most depth ≡ false
   pub left : length (at ∷ rest) ≡ n
 
-abbrev Followed : Type 0
+abbrev pub Followed : Type 0
 Followed = Read (Unit {0})
 
 abbrev rest_in : Followed → Tokens
 rest_in (Ok x) = x.1
 rest_in (Err e) = []
 
-abbrev count_in : Followed → ℕ
+abbrev pub count_in : Followed → ℕ
 count_in (Ok x) = 0
 count_in (Err (Wrong n)) = n
 count_in (Err (Deep n)) = n
@@ -90,10 +90,10 @@ through_of c most s ts us _ (stopped ps x r t vs split run within none) e = absu
 through_of c most s ts us _ (at_end ps x r split run within) e = absurd cc
 through_of c most s ts us _ (too_deep ps x r new d t vs split run within goes under) e = absurd cc
 
-abbrev wrong_at : ℕ → Followed
+abbrev pub wrong_at : ℕ → Followed
 wrong_at n = Err (Wrong n)
 
-abbrev deep_at : ℕ → Followed
+abbrev pub deep_at : ℕ → Followed
 deep_at n = Err (Deep n)
 
 wrong_of : (c : Context) (most : ℕ) (s : Stack) (ts : Tokens) (n : ℕ) (a : Followed) → Trace c most s ts a → a ≡ wrong_at n → Stopped c most s ts n ⊎ Unfinished c s ts
@@ -164,10 +164,6 @@ front_hole c name rest e = rw e refl
 
 -- ---- a hole that isn't open is passed nowhere
 
-abbrev new_of : Step → Stack
-new_of (Some y) = y.1
-new_of None = []
-
 abbrev head_symbol : Stack → Symbol
 head_symbol [] = After
 head_symbol (x ∷ s) = x
@@ -178,9 +174,6 @@ record ExpectsName (new : Stack) : Type 0 where
 
 abbrev holed : ℕ → Bool → Step
 holed d b = cond b (Some (d, HoleName ∷ Exactly sign.Greater ∷ [])) None
-
-abbrev some_step : ℕ → Stack → Step
-some_step d s = Some (d, s)
 
 on_holes : (b : Bool) (d e : ℕ) (new : Stack) → holed d b ≡ some_step e new → ExpectsName new
 on_holes true d e new h = record { more = Exactly sign.Greater ∷ []; is = sym (ap new_of h) }
@@ -228,7 +221,7 @@ hole_run c (x ∷ s) r (p ∷ (q ∷ ps)) name m u e h =
     name_run c (h.0 ++ s) r q ps name (appended_name h.0 s expects) second u h.2
 
 module _ (c : Context) (k : IsContext c) where
-  unknown_stops : (front : Tokens) (name : List ℕ) → leaf_named c.holes name ≡ None → Begins c (front ++ Mark sign.Less ∷ Word name ∷ []) → ⊥
+  pub unknown_stops : (front : Tokens) (name : List ℕ) → leaf_named c.holes name ≡ None → Begins c (front ++ Mark sign.Less ∷ Word name ∷ []) → ⊥
   unknown_stops front name u b =
       let run = begins_run c k (front ++ Mark sign.Less ∷ Word name ∷ []) b in
       let p = split_tokens run.0 front (Mark sign.Less ∷ Word name ∷ []) run.3 in
@@ -237,7 +230,7 @@ module _ (c : Context) (k : IsContext c) where
 
   -- ---- the three cases
 
-  abbrev Follows : Tokens → Followed → Type 0
+  abbrev pub Follows : Tokens → Followed → Type 0
   Follows ts a = follow c 32 start ts ≡ a
 
   trace_of : (ts : Tokens) → Trace c 32 start ts (follow c 32 start ts)
@@ -251,7 +244,7 @@ module _ (c : Context) (k : IsContext c) where
       let same : tokens_in th.placed ≡ tokens_in t.placed = append_cancel_right (tokens_in th.placed) (tokens_in t.placed) us (sym th.split ∙ t.split) in
       let placed : th.placed ≡ t.placed = run_alike c th.placed t.placed start [] [] th.run (transfer_run c k ms t.placed t.spells) same in
       let whole : b.body ++ Mark sign.End ∷ us ≡ ended.body ++ Mark sign.End ∷ [] =
-            sym (append_assoc b.body (Mark sign.End ∷ []) us) ∙ ap (λ l. l ++ us) (sym b.is) ∙ sym t.split ∙ ended.is in
+      sym (append_assoc b.body (Mark sign.End ∷ []) us) ∙ ap (λ l. l ++ us) (sym b.is) ∙ sym t.split ∙ ended.is in
       let nothing : us ≡ [] = one_end b.body ended.body us ended.none whole in
       record {
         placed = t.placed;
@@ -261,13 +254,14 @@ module _ (c : Context) (k : IsContext c) where
       }
 
   -- a fault of depth is where the automaton finds it
-  too_deep_at : (ts before : Tokens) → TooDeepAt c ts before → (n : ℕ) × Follows ts (deep_at n) × (length ts ≡ length before + n)
+  pub too_deep_at : (ts before : Tokens) → TooDeepAt c ts before → (n : ℕ) × Follows ts (deep_at n) × (length ts ≡ length before + n)
   too_deep_at ts before t =
       let r = run_split c t.front (t.at ∷ t.after) start [] (transfer_run c k t.said (t.front ++ t.at ∷ t.after) t.spells) in
-      let ts_is : ts ≡ tokens_in t.front ++ t.at.token ∷ t.rest = t.split ∙ ap (λ l. l ++ t.at.token ∷ t.rest) (sym t.begins) in
-      (length (t.at.token ∷ t.rest),
-      ap (follow c 32 start) ts_is ∙ run_followed c 32 t.front start r.0 (t.at.token ∷ t.rest) r.1 (within_to 32 t.front t.within) ∙ go r.0 r.2,
-      ap length t.split ∙ length-append before (t.at.token ∷ t.rest))
+      let ts_is : ts ≡ tokens_in t.front ++ t.at.token ∷ t.rest = t.split ∙ ap (λ l. l ++ t.at.token ∷ t.rest) (sym t.begins) in (
+        length (t.at.token ∷ t.rest),
+        ap (follow c 32 start) ts_is ∙ run_followed c 32 t.front start r.0 (t.at.token ∷ t.rest) r.1 (within_to 32 t.front t.within) ∙ go r.0 r.2,
+        ap length t.split ∙ length-append before (t.at.token ∷ t.rest),
+      )
     where
       go : (s : Stack) → Run c s (t.at ∷ t.after) [] → follow c 32 s (t.at.token ∷ t.rest) ≡ deep (t.at.token ∷ t.rest)
       go [] h = absurd h
@@ -281,7 +275,7 @@ module _ (c : Context) (k : IsContext c) where
       let b = begun c k u.placed (u.symbol ∷ u.below) u.run in
       let e : Bodied (tokens_in (u.placed ++ b.after)) = transfer_ended c b.said (u.placed ++ b.after) b.spells in
       let whole : ended.body ++ Mark sign.End ∷ tokens_in b.after ≡ e.body ++ Mark sign.End ∷ [] =
-            sym (append_assoc ended.body (Mark sign.End ∷ []) (tokens_in b.after)) ∙ ap (λ l. l ++ tokens_in b.after) (sym ended.is ∙ u.split) ∙ sym (tokens_append u.placed b.after) ∙ e.is in
+      sym (append_assoc ended.body (Mark sign.End ∷ []) (tokens_in b.after)) ∙ ap (λ l. l ++ tokens_in b.after) (sym ended.is ∙ u.split) ∙ sym (tokens_append u.placed b.after) ∙ e.is in
       go b.after (one_end ended.body e.body (tokens_in b.after) e.none whole) b.run
     where
       go : (ps : List Placed) → tokens_in ps ≡ [] → Run c (u.symbol ∷ u.below) ps [] → ⊥
@@ -295,8 +289,8 @@ module _ (c : Context) (k : IsContext c) where
     before = tokens_in s.placed;
     fault = record {
       bad = unexpected s.at s.rest
-        (record { split = s.split; goes = run_begins c k s.placed (s.symbol ∷ s.below) (tokens_in s.placed) s.run refl; stops = stops c k s.placed s.symbol s.below s.at (tokens_in s.placed) s.run s.none refl })
-        (λ h. no_name h);
+          (record { split = s.split; goes = run_begins c k s.placed (s.symbol ∷ s.below) (tokens_in s.placed) s.run refl; stops = stops c k s.placed s.symbol s.below s.at (tokens_in s.placed) s.run s.none refl })
+          (λ h. no_name h);
       first = λ front t. absurd (never_deep ts front n f t);
     };
     leaves = record { rest = s.at ∷ s.rest; split = s.split; left = s.left };
@@ -307,7 +301,7 @@ module _ (c : Context) (k : IsContext c) where
           let tail : Tokens = Mark sign.Less ∷ Word h.name ∷ Mark sign.Greater ∷ h.behind in
           let rest_is : s.at ∷ s.rest ≡ Word h.name ∷ Mark sign.Greater ∷ h.behind = λ i. h.is i ∷ h.right i in
           let ts_is : ts ≡ h.front ++ tail =
-                s.split ∙ ap (λ l. l ++ s.at ∷ s.rest) h.left ∙ append_assoc h.front (Mark sign.Less ∷ []) (s.at ∷ s.rest) ∙ ap (λ l. h.front ++ Mark sign.Less ∷ l) rest_is in
+          s.split ∙ ap (λ l. l ++ s.at ∷ s.rest) h.left ∙ append_assoc h.front (Mark sign.Less ∷ []) (s.at ∷ s.rest) ∙ ap (λ l. h.front ++ Mark sign.Less ∷ l) rest_is in
           let count : length tail ≡ suc n = omega (arith, s.left, ap length rest_is) in
           let last : last_tokens (suc n) ts ≡ tail = ap (λ m. last_tokens m ts) (sym count) ∙ ap (last_tokens (length tail)) ts_is ∙ last_is h.front tail in
           let whole : is_unknown_hole c (last_tokens (suc n) ts) ≡ true = ap (is_unknown_hole c) last ∙ front_hole c h.name h.behind h.unknown in
@@ -329,8 +323,8 @@ module _ (c : Context) (k : IsContext c) where
       let cut = take_drop (suc n) ts (omega (arith, less)) in
       let h : HoleFront c (last_tokens (suc n) ts) = hole_front c (last_tokens (suc n) ts) p.1 in
       let m : Middle front (tokens_in s.placed) (last_tokens (suc n) ts) (s.at ∷ s.rest) =
-            middle_of front (tokens_in s.placed) (last_tokens (suc n) ts) (s.at ∷ s.rest) (sym cut.0 ∙ s.split)
-            (omega (arith, cut.1, ap length s.split, length-append (tokens_in s.placed) (s.at ∷ s.rest), s.left)) in
+      middle_of front (tokens_in s.placed) (last_tokens (suc n) ts) (s.at ∷ s.rest) (sym cut.0 ∙ s.split)
+      (omega (arith, cut.1, ap length s.split, length-append (tokens_in s.placed) (s.at ∷ s.rest), s.left)) in
       let goes : Begins c (front ++ m.middle) = subst (Begins c) m.longer (run_begins c k s.placed (s.symbol ∷ s.below) (tokens_in s.placed) s.run refl) in
       record {
         before = front;
@@ -404,7 +398,7 @@ module _ (c : Context) (k : IsContext c) where
         fault = record {
           bad = unknown_hole h.name h.rest (d.split ∙ ap (λ l. tokens_in d.placed ++ l) h.is) h.unknown (run_begins c k d.placed (d.symbol ∷ d.below) (tokens_in d.placed) d.run refl);
           first = λ front t. let o = too_deep_at ts front t in
-            let same : n ≡ o.0 = same_deep n o.0 (sym f ∙ o.1) in omega (arith, o.2, same, deep_length ts n d);
+              let same : n ≡ o.0 = same_deep n o.0 (sym f ∙ o.1) in omega (arith, o.2, same, deep_length ts n d);
         };
         leaves = record { rest = tail; split = d.split; left = d.left };
       }
@@ -414,8 +408,8 @@ module _ (c : Context) (k : IsContext c) where
   fronts_begin ts n d us vs e le =
       let whole : Tokens = tokens_in d.placed ++ d.at ∷ [] in
       let m : Middle us whole vs d.rest =
-            middle_of us whole vs d.rest (sym e ∙ d.split ∙ sym (append_assoc (tokens_in d.placed) (d.at ∷ []) d.rest))
-            (omega (arith, le, length-append (tokens_in d.placed) (d.at ∷ []))) in
+      middle_of us whole vs d.rest (sym e ∙ d.split ∙ sym (append_assoc (tokens_in d.placed) (d.at ∷ []) d.rest))
+      (omega (arith, le, length-append (tokens_in d.placed) (d.at ∷ []))) in
       fewer_begin c us m.middle (subst (Begins c) m.longer (deep_front ts n d))
 
   deep_first : (ts : Tokens) (n : ℕ) (d : Deepened c 32 start ts n) → is_unknown_hole c (last_tokens n ts) ≡ false → (front : Tokens) → BadFormAt c ts front → length (tokens_in d.placed) < length front
@@ -459,5 +453,5 @@ module _ (c : Context) (k : IsContext c) where
       let e : tokens_in s.placed ++ [] ≡ ts = append-nil (tokens_in s.placed) ∙ s.tokens in
       let n : length s.placed ≡ length ts = sym (length-map s.placed (λ p. p.token)) ∙ ap length s.tokens in
       let read : transfer c 31 ts ≡ gives ms [] =
-            ap (transfer c 31) (sym e) ∙ transfer_reads c k 31 ms s.placed s.spells (within_to 32 s.placed s.within) (length (tokens_in s.placed ++ [])) (omega (arith, n, ap length e)) [] in
+      ap (transfer c 31) (sym e) ∙ transfer_reads c k 31 ms s.placed s.spells (within_to 32 s.placed s.within) (length (tokens_in s.placed ++ [])) (omega (arith, n, ap length e)) [] in
       ap (answer c ts) read

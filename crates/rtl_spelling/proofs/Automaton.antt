@@ -1,8 +1,8 @@
 -- An automaton with a stack of what is expected, which reads one token at a time.
-use Rattle.std.specs.Prelude.{ℕ, zero, suc, ◌≡◌, nat_le, Bool, true, false, if◌then◌else◌, List, [], ◌∷◌, ◌++◌, Option, Some, None}
-use Rattle.rtl_tree.specs.declared.cells.Cell.{Cell}
+use Rattle.std.proofs.Common.{◌≡◌, ◌≤◌, ◌<◌, false, refl, arith}
+use Rattle.std.proofs.lemmas.Bool.{leb-true, le-leb, lt-leb}
+use Rattle.std.specs.Prelude.{ℕ, zero, suc, nat_le, Bool, true, if◌then◌else◌, List, [], ◌∷◌, ◌++◌, Option, Some, None}
 use Rattle.rtl_tree.specs.declared.expressions.BinOp.TheVariants.{Cmp}
-use Rattle.rtl_tree.specs.Trees.{Tree}
 use Rattle.rtl_spelling.specs.declared.signs.Sign.{Sign}
 use Rattle.rtl_spelling.specs.declared.signs.Sign.TheVariants as sign
 use Rattle.rtl_spelling.specs.declared.senses.Bank.{Bank}
@@ -111,3 +111,28 @@ abbrev pub follow : Context → ℕ → Stack → List Token → Read (Unit {0})
 follow c most [] ts = gives tt ts
 follow c most (x ∷ s) [] = wrong []
 follow c most (x ∷ s) (t ∷ ts) = followed most (step c x t) (t ∷ ts) (λ new. follow c most (new ++ s) ts)
+
+-- ---- depths and steps
+
+pub stood : (most d : ℕ) → stands most d ≡ true → d ≤ most
+stood most zero h = omega arith
+stood most (suc d) h = leb-true (suc d) most h
+
+pub stand : (most d : ℕ) → d ≤ most → stands most d ≡ true
+stand most zero h = refl
+stand most (suc d) h = le-leb (suc d) most h
+
+pub past : (most d : ℕ) → most < d → stands most d ≡ false
+past most zero h = absurd (omega (arith, h))
+past most (suc d) h = lt-leb (suc d) most h
+
+abbrev pub some_step : ℕ → Stack → Step
+some_step d s = Some (d, s)
+
+abbrev pub new_of : Step → Stack
+new_of (Some y) = y.1
+new_of None = []
+
+abbrev pub depth_of : Step → ℕ
+depth_of (Some y) = y.0
+depth_of None = 0

@@ -1,30 +1,20 @@
 -- What the automaton passes over begins a spelling, and what begins one it passes over.
-use Rattle.std.proofs.Common.{◌≡◌, ℕ, zero, suc, ◌+◌, ◌≤◌, ◌<◌, Bool, true, false, List, [], ◌∷◌, ◌++◌, length, Option, Some, None, Ok, Err, refl, sym, ap, subst, ◌∙◌, append_assoc, arith, inl, inr}
-use Rattle.std.specs.Prelude.{◌⊎◌, All}
+use Rattle.std.proofs.Common.{◌≡◌, ℕ, suc, ◌+◌, ◌≤◌, List, [], ◌∷◌, ◌++◌, None, Ok, Err, refl, sym, ap, subst, ◌∙◌, append_assoc, arith}
 use Rattle.std.proofs.lemmas.List.{append-nil}
 use Rattle.std.proofs.lemmas.List.Elements.{All-nil, All-cons, All-head, All-tail}
-use Rattle.std.proofs.lemmas.Bool.{leb-true, le-leb}
 use Rattle.rtl_spelling.specs.Tokens.{Token}
 use Rattle.rtl_spelling.specs.Spelling.{Context, IsContext, Placed, tokens_in, Said, SpellsTransfer, AreWithin}
 use Rattle.rtl_spelling.specs.Faults.{Begins}
-use Rattle.rtl_spelling.specs.Reading.{Read, Trouble, Wrong, Deep, ◌>>=◌, gives, transfer}
-use Rattle.rtl_spelling.proofs.Automaton.{Symbol, Stack, Step, step, start, stands, follow}
+use Rattle.rtl_spelling.specs.Reading.{Read, ◌>>=◌, gives, transfer}
+use Rattle.rtl_spelling.proofs.Automaton.{Symbol, Stack, step, start, stand, stood, new_of, follow}
 use Rattle.rtl_spelling.proofs.Follow.{transfer_is}
 use Rattle.rtl_spelling.proofs.Runs.{Run, run_append, transfer_run}
-use Rattle.rtl_spelling.proofs.Completion.{AllMay, start_may, run_may, Completes, completes}
+use Rattle.rtl_spelling.proofs.Completion.{start_may, run_may, Completes, completes}
 use Rattle.rtl_spelling.proofs.Traces.{Within, run_followed, run_alike}
 use Rattle.rtl_spelling.proofs.Sound.{Transferred, transfer_spelled}
 use Rattle.rtl_spelling.proofs.Ends.{tokens_append}
 
 -- ---- depths
-
-stood : (most d : ℕ) → stands most d ≡ true → d ≤ most
-stood most zero h = omega arith
-stood most (suc d) h = leb-true (suc d) most h
-
-pub stand : (most d : ℕ) → d ≤ most → stands most d ≡ true
-stand most zero h = refl
-stand most (suc d) h = le-leb (suc d) most h
 
 pub within_from : (most : ℕ) (ps : List Placed) → Within most ps → AreWithin most ps
 within_from most [] h = All-nil (λ (p : Placed). p.depth ≤ most)
@@ -49,13 +39,6 @@ pub run_split : (c : Context) (ps qs : List Placed) (a b : Stack) → Run c a (p
 run_split c [] qs a b h = (a, refl, h)
 run_split c (p ∷ ps) qs [] b h = absurd h
 run_split c (p ∷ ps) qs (x ∷ a) b h = let r = run_split c ps qs (h.0 ++ a) b h.2 in (r.0, (h.0, h.1, r.1), r.2)
-
-abbrev some_step : ℕ → Stack → Step
-some_step d s = Some (d, s)
-
-abbrev new_of : Step → Stack
-new_of (Some y) = y.1
-new_of None = []
 
 run_same : (c : Context) (ps : List Placed) (s a b : Stack) → Run c s ps a → Run c s ps b → a ≡ b
 run_same c [] s a b h k = sym h ∙ k

@@ -1,6 +1,6 @@
 -- What is spelled is read back.
-use Rattle.std.proofs.Common.{◌≡◌, ℕ, zero, suc, ◌+◌, ◌≤◌, ◌<◌, Bool, true, false, List, [], ◌∷◌, ◌++◌, length, Option, Some, None, Ok, Err, refl, sym, ap, subst, ◌∙◌, append_assoc, arith, inl, inr}
-use Rattle.std.specs.Prelude.{cond, codes, decimal, slice_get, ◌⊎◌, ◌^◌}
+use Rattle.std.proofs.Common.{◌≡◌, ℕ, zero, suc, ◌+◌, ◌≤◌, ◌<◌, true, false, List, [], ◌∷◌, ◌++◌, length, Option, Some, refl, sym, ap, ◌∙◌, arith}
+use Rattle.std.specs.Prelude.{cond, codes, decimal}
 use Rattle.std.specs.Fmt.{signed_decimal}
 use Rattle.std.proofs.lemmas.Bool.{lt-leb}
 use Rattle.std.proofs.lemmas.List.{length-append}
@@ -8,25 +8,23 @@ use Rattle.rtl_word.specs.Words.{word_signed}
 use Rattle.rtl_word.specs.declared.Rel.{Rel}
 use Rattle.rtl_tree.specs.declared.cells.Cell.{Cell}
 use Rattle.rtl_tree.specs.declared.cells.Cell.TheVariants.{Hard, Temp, Flag, Pc, Input, Output, Halt, Hole}
-use Rattle.rtl_tree.specs.declared.cells.Lab.TheVariants.{Block, Function}
 use Rattle.rtl_tree.specs.declared.expressions.Width.{Width}
 use Rattle.rtl_tree.specs.declared.expressions.UnOp.{UnOp}
 use Rattle.rtl_tree.specs.declared.expressions.UnOp.TheVariants.{Test}
 use Rattle.rtl_tree.specs.declared.expressions.BinOp.{BinOp}
 use Rattle.rtl_tree.specs.declared.expressions.BinOp.TheVariants.{Cmp}
-use Rattle.rtl_tree.specs.Trees.{Tree, Number as NumberTree, Symbol, CodeLabel, Read as ReadTree, Load, Unary, Binary, NoPair}
+use Rattle.rtl_tree.specs.Trees.{Tree, Read as ReadTree, Load, Unary, Binary, NoPair}
 use Rattle.rtl_tree.specs.Moves.{Goal, ToCell, ToMemory}
-use Rattle.rtl_spelling.specs.declared.signs.Sign.{Sign}
 use Rattle.rtl_spelling.specs.declared.signs.Sign.TheVariants as sign
 use Rattle.rtl_spelling.specs.declared.senses.Bank.{Bank}
 use Rattle.rtl_spelling.specs.declared.senses.Bank.TheVariants.{Register, Temporary, Flag as FlagBank}
 use Rattle.rtl_spelling.specs.declared.senses.Sense.{Sense}
 use Rattle.rtl_spelling.specs.declared.senses.Sense.TheVariants as sense
 use Rattle.rtl_spelling.specs.Tokens.{Token, Word, Number, Mark}
-use Rattle.rtl_spelling.specs.Holes.{Open, leaf_named}
-use Rattle.rtl_spelling.specs.Spelling.{Context, IsContext, Placed, starts, inner, mark, tokens_in, begun, cell_tokens, IsSpelledCell, name_token, hole_tokens, memory_tokens, memory_word, unary_word, relation_word, operator_token, Spells, number, symbol, function, block, cell, memory, unary, binary, test, hole, Said, goal_of_leaf, SpellsPlace, to_cell, to_memory, to_hole, SpellsMove, value, lost, SpellsTransfer, last, more, becomes, StandsBefore}
-use Rattle.rtl_spelling.specs.Senses.{sense_of, cell_at, bank_cell, bank_size}
-use Rattle.rtl_spelling.specs.Reading.{Read, ◌>>=◌, head_of, rest_of, gives, wrong, deep, is_sign, expect, index_on, index, hole_on, leaf_at, has_holes, hole as read_hole, too_deep, Reader, address, right, operator_on, operator, after_relation, tested_on, tested, inside_on, inside, tree_on, tree, place_on, place, value_on, value as read_value, move, moves, transfer}
+use Rattle.rtl_spelling.specs.Holes.{leaf_named}
+use Rattle.rtl_spelling.specs.Spelling.{Context, IsContext, Placed, starts, inner, mark, tokens_in, begun, cell_tokens, IsSpelledCell, name_token, memory_tokens, memory_word, unary_word, relation_word, operator_token, Spells, number, symbol, function, block, cell, memory, unary, binary, test, hole, Said, goal_of_leaf, SpellsPlace, to_cell, to_memory, to_hole, SpellsMove, value, lost, SpellsTransfer, last, more, becomes, StandsBefore}
+use Rattle.rtl_spelling.specs.Senses.{sense_of, bank_cell, bank_size}
+use Rattle.rtl_spelling.specs.Reading.{Read, ◌>>=◌, head_of, rest_of, gives, wrong, is_sign, expect, index_on, index, hole_on, hole as read_hole, too_deep, Reader, address, right, operator_on, operator, tested_on, tested, inside_on, inside, tree_on, tree, place_on, place, value_on, value as read_value, move, moves}
 use Rattle.rtl_spelling.proofs.Automaton.{stands}
 use Rattle.rtl_spelling.proofs.Traces.{Within}
 use Rattle.rtl_spelling.proofs.Told.{number_told, object_told, function_told, block_told, memory_told, unary_told, operator_told, index_told}
@@ -127,7 +125,7 @@ module _ (c : Context) where
 
   binary_reads : (f d : ℕ) (o : BinOp) (a b : Tree) (ps qs : List Placed) → ReadsBack f a ps → ReadsBack f b qs
       → ReadsBack (suc f) (Binary o a b)
-        (starts d (Mark sign.LeftParen) ∷ (ps ++ mark sign.Space ∷ inner (operator_token o) ∷ mark sign.Space ∷ (qs ++ mark sign.RightParen ∷ [])))
+      (starts d (Mark sign.LeftParen) ∷ (ps ++ mark sign.Space ∷ inner (operator_token o) ∷ mark sign.Space ∷ (qs ++ mark sign.RightParen ∷ [])))
   binary_reads f d o a b ps qs h i us =
       let ws : Tokens = tokens_in (qs ++ mark sign.RightParen ∷ []) ++ us in
       let ts : Tokens = tokens_in ps ++ Mark sign.Space ∷ operator_token o ∷ Mark sign.Space ∷ ws in
@@ -226,7 +224,7 @@ module _ (c : Context) where
   becomes_reads f g t ps qs us h i =
       ap (move c f) (tokens_append ps (becomes qs) us)
       ∙ ap (λ (r : Read (Option Goal)). r >>= λ g us. expect sign.Space us >>= λ _ us. expect sign.Equals us >>= λ _ us. expect sign.Space us
-          >>= λ _ us. read_value c (tree c (suc f)) us >>= λ t us. gives (record { to = g; value = t }) us) h
+      >>= λ _ us. read_value c (tree c (suc f)) us >>= λ t us. gives (record { to = g; value = t }) us) h
       ∙ ap (λ (r : Read Tree). r >>= λ t us. gives (record { to = g; value = t }) us) i
 
   move_reads : (k : IsContext c) (f : ℕ) (m : Said) (ps : List Placed) → SpellsMove c m ps → Within (suc f) ps → (us : Tokens)
@@ -256,4 +254,4 @@ module _ (c : Context) where
       ap (moves c f (suc n)) (tokens_append ps (mark sign.Semicolon ∷ mark sign.Space ∷ qs) us)
       ∙ ap (λ (r : Read Said). r >>= λ m us. behind f n m us) (move_reads k f m ps h p.0 (Mark sign.Semicolon ∷ Mark sign.Space ∷ (tokens_in qs ++ us)))
       ∙ ap (λ (r : Read (List Said)). r >>= λ ms us. gives (m ∷ ms) us)
-          (transfer_reads k f ms qs i p.1.1.1 n (omega (arith, le, length-append ps (mark sign.Semicolon ∷ mark sign.Space ∷ qs))) us)
+      (transfer_reads k f ms qs i p.1.1.1 n (omega (arith, le, length-append ps (mark sign.Semicolon ∷ mark sign.Space ∷ qs))) us)

@@ -1,10 +1,8 @@
 -- Whatever is expected can be completed.
-use Rattle.std.proofs.Common.{◌≡◌, ℕ, suc, ◌+◌, Bool, true, false, List, [], ◌∷◌, ◌++◌, Option, Some, None, refl, sym, ap, subst, ◌∙◌}
+use Rattle.std.proofs.Common.{◌≡◌, ℕ, suc, Bool, true, false, List, [], ◌∷◌, ◌++◌, Option, Some, None, refl, ap, subst}
 use Rattle.std.specs.Prelude.{cond, codes}
-use Rattle.rtl_tree.specs.declared.cells.Cell.{Cell}
 use Rattle.rtl_tree.specs.declared.expressions.BinOp.TheVariants.{Cmp}
 use Rattle.rtl_tree.specs.Trees.{Tree}
-use Rattle.rtl_spelling.specs.declared.signs.Sign.{Sign}
 use Rattle.rtl_spelling.specs.declared.signs.Sign.TheVariants as sign
 use Rattle.rtl_spelling.specs.declared.senses.Bank.{Bank}
 use Rattle.rtl_spelling.specs.declared.senses.Bank.TheVariants.{Register, Temporary, Flag as FlagBank}
@@ -16,8 +14,8 @@ use Rattle.rtl_spelling.specs.Spelling.{Context, Placed, starts, inner, mark}
 use Rattle.rtl_spelling.specs.Senses.{sense_of, cell_at}
 use Rattle.rtl_spelling.specs.Reading.{is_sign, leaf_at, has_holes}
 use Rattle.rtl_spelling.proofs.Numbers.{same_bytes}
-use Rattle.rtl_spelling.proofs.Automaton.{Symbol, ATree, Inside, Operator, Tested, AfterRelation, Exactly, Index, HoleName, Place, Value, After, Stack, Step, below, tree_step, right_of, operator_step, tested_step, inside_step, place_step, value_step, behind_place, start, on_test, on_found, step}
-use Rattle.rtl_spelling.proofs.Runs.{Run, run_append, Passes, exactly_run, exactly_step}
+use Rattle.rtl_spelling.proofs.Automaton.{Symbol, ATree, Inside, Operator, Tested, AfterRelation, Exactly, Index, HoleName, Place, Value, After, Stack, Step, below, tree_step, right_of, operator_step, tested_step, inside_step, place_step, value_step, start, on_test, on_found, step}
+use Rattle.rtl_spelling.proofs.Runs.{Run, run_append, Passes, exactly_step}
 
 -- a hole's name is expected only where holes are open, and its `<` is nowhere expected alone
 abbrev pub MayStand : Context → Symbol → Type 0

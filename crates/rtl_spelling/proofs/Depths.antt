@@ -1,7 +1,6 @@
 -- A step goes at most one deeper.
-use Rattle.std.proofs.Common.{◌≡◌, ℕ, zero, suc, ◌+◌, ◌≤◌, Bool, true, false, List, [], ◌∷◌, ◌++◌, Option, Some, None, refl, sym, ap, subst, ◌∙◌, arith}
+use Rattle.std.proofs.Common.{◌≡◌, ℕ, suc, ◌≤◌, Bool, true, false, List, [], ◌∷◌, ◌++◌, Option, Some, None, subst, arith}
 use Rattle.std.specs.Prelude.{cond}
-use Rattle.std.proofs.lemmas.Bool.{leb-true}
 use Rattle.rtl_tree.specs.declared.expressions.BinOp.TheVariants.{Cmp}
 use Rattle.rtl_spelling.specs.declared.signs.Sign.TheVariants as sign
 use Rattle.rtl_spelling.specs.declared.senses.Bank.TheVariants.{Flag as FlagBank}
@@ -11,7 +10,7 @@ use Rattle.rtl_spelling.specs.Tokens.{Token}
 use Rattle.rtl_spelling.specs.Spelling.{Context, Placed}
 use Rattle.rtl_spelling.specs.Senses.{sense_of, cell_at}
 use Rattle.rtl_spelling.specs.Reading.{is_sign, leaf_at, has_holes}
-use Rattle.rtl_spelling.proofs.Automaton.{Symbol, ATree, Inside, Operator, Tested, AfterRelation, Exactly, Index, HoleName, Place, Value, After, Stack, Step, below, tree_step, right_of, operator_step, tested_step, inside_step, place_step, value_step, start, on_test, on_found, step, stands}
+use Rattle.rtl_spelling.proofs.Automaton.{Symbol, ATree, Inside, Operator, Tested, AfterRelation, Exactly, Index, HoleName, Place, Value, After, Stack, Step, below, tree_step, right_of, operator_step, tested_step, inside_step, place_step, value_step, start, on_test, on_found, step, stands, stood}
 use Rattle.rtl_spelling.proofs.Runs.{Run}
 use Rattle.rtl_spelling.proofs.Traces.{Within}
 
@@ -37,10 +36,6 @@ module _ (most : ℕ) where
   shallow_append [] r h k = k
   shallow_append (x ∷ s) r h k = (h.0, shallow_append s r h.1 k)
 
-  stood : (d : ℕ) → stands most d ≡ true → d ≤ most
-  stood zero h = omega arith
-  stood (suc d) h = leb-true (suc d) most h
-
   under : (d : ℕ) → d ≤ most → suc d ≤ suc most
   under d h = omega (arith, h)
 
@@ -54,8 +49,8 @@ module _ (most : ℕ) where
   tree_shallow c d (sense.Label n) h = (h, λ _. tt)
   tree_shallow c d (sense.Cell n) h = (h, λ _. tt)
   tree_shallow c d (sense.Bank n) h = (h, λ _. (tt, (tt, (tt, tt))))
-  tree_shallow c d (sense.Memory n) h = (h, λ s. (tt, (under d (stood d s), (tt, tt))))
-  tree_shallow c d (sense.Sign sign.LeftParen) h = (h, λ s. (stood d s, tt))
+  tree_shallow c d (sense.Memory n) h = (h, λ s. (tt, (under d (stood most d s), (tt, tt))))
+  tree_shallow c d (sense.Sign sign.LeftParen) h = (h, λ s. (stood most d s, tt))
   tree_shallow c d (sense.Sign sign.Less) h = on_holes (has_holes c.holes) d h
   tree_shallow c d _ h = tt
 

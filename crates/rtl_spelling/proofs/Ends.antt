@@ -9,11 +9,10 @@ use Rattle.rtl_tree.specs.declared.expressions.BinOp.TheVariants.{Add, Sub, Mul,
 use Rattle.rtl_tree.specs.Trees.{Tree}
 use Rattle.std.specs.Prelude.{Option}
 use Rattle.rtl_tree.specs.Moves.{Goal}
-use Rattle.rtl_spelling.specs.declared.signs.Sign.{Sign}
 use Rattle.rtl_spelling.specs.declared.signs.Sign.TheVariants as sign
 use Rattle.rtl_spelling.specs.Tokens.{Token, Word, Number, Mark}
 use Rattle.rtl_spelling.specs.Law.{ends}
-use Rattle.rtl_spelling.specs.Spelling.{Context, Placed, starts, inner, mark, tokens_in, begun, cell_tokens, operator_token, Spells, number, symbol, function, block, cell, memory, unary, binary, test, hole, Said, SpellsPlace, to_cell, to_memory, to_hole, SpellsMove, value, lost, SpellsTransfer, last, more, becomes}
+use Rattle.rtl_spelling.specs.Spelling.{Context, Placed, inner, mark, tokens_in, begun, cell_tokens, operator_token, Spells, number, symbol, function, block, cell, memory, unary, binary, test, hole, Said, SpellsPlace, to_cell, to_memory, to_hole, SpellsMove, value, lost, SpellsTransfer, last, more, becomes}
 
 abbrev Tokens : Type 0
 Tokens = List Token
@@ -79,9 +78,14 @@ no_end c _ _ _ (cell d x h) = no_cell_end d x
 no_end c _ _ _ (memory d w a ps h) = close_end ps (mark sign.RightBracket) (no_end c (suc d) a ps h) refl
 no_end c _ _ _ (unary d o a ps b h) = close_end ps (mark sign.RightParen) (no_end c (suc d) a ps h) refl
 no_end c _ _ _ (binary d o a b ps qs h i) =
-    omega (arith, count_append ps (mark sign.Space ∷ inner (operator_token o) ∷ mark sign.Space ∷ (qs ++ mark sign.RightParen ∷ [])),
-    ends_cons (operator_token o) (tokens_in (mark sign.Space ∷ (qs ++ mark sign.RightParen ∷ []))), no_operator_end o,
-    no_end c (suc d) a ps h, close_end qs (mark sign.RightParen) (no_end c (suc d) b qs i) refl)
+    omega (
+      arith,
+      count_append ps (mark sign.Space ∷ inner (operator_token o) ∷ mark sign.Space ∷ (qs ++ mark sign.RightParen ∷ [])),
+      ends_cons (operator_token o) (tokens_in (mark sign.Space ∷ (qs ++ mark sign.RightParen ∷ []))),
+      no_operator_end o,
+      no_end c (suc d) a ps h,
+      close_end qs (mark sign.RightParen) (no_end c (suc d) b qs i) refl,
+    )
 no_end c _ _ _ (test d q n l) = refl
 no_end c _ _ _ (hole d name leaf e) = refl
 

@@ -1,15 +1,13 @@
 -- The reading goes the way of the automaton.
-use Rattle.std.proofs.Common.{◌≡◌, ℕ, zero, suc, ◌+◌, ◌≤◌, ◌<◌, Bool, true, false, nat_le, cond, if◌then◌else◌, List, [], ◌∷◌, ◌++◌, length, Option, Some, None, Ok, Err, refl, sym, ap, subst, ◌∙◌, append_assoc, arith, inl, inr}
-use Rattle.std.proofs.lemmas.Bool.{cases_Bool, le-leb, lt-leb}
+use Rattle.std.proofs.Common.{◌≡◌, ℕ, zero, suc, ◌+◌, ◌≤◌, Bool, true, false, cond, if◌then◌else◌, List, [], ◌∷◌, ◌++◌, length, Option, Some, None, Ok, Err, refl, sym, ap, subst, ◌∙◌, append_assoc, arith}
 use Rattle.rtl_word.specs.declared.Rel.{Rel}
 use Rattle.rtl_tree.specs.declared.cells.Cell.{Cell}
-use Rattle.rtl_tree.specs.declared.expressions.Width.{Width}
 use Rattle.rtl_tree.specs.declared.expressions.UnOp.{UnOp}
 use Rattle.rtl_tree.specs.declared.expressions.UnOp.TheVariants.{Test}
 use Rattle.rtl_tree.specs.declared.expressions.BinOp.{BinOp}
 use Rattle.rtl_tree.specs.declared.expressions.BinOp.TheVariants.{Cmp}
 use Rattle.rtl_tree.specs.Trees.{Tree, Load, Unary, Binary, Read as ReadTree}
-use Rattle.rtl_tree.specs.Moves.{Goal, ToMemory, ToCell}
+use Rattle.rtl_tree.specs.Moves.{ToMemory, ToCell}
 use Rattle.rtl_spelling.specs.declared.signs.Sign.{Sign}
 use Rattle.rtl_spelling.specs.declared.signs.Sign.TheVariants as sign
 use Rattle.rtl_spelling.specs.declared.senses.Bank.{Bank}
@@ -19,8 +17,8 @@ use Rattle.rtl_spelling.specs.declared.senses.Sense.TheVariants as sense
 use Rattle.rtl_spelling.specs.Tokens.{Token}
 use Rattle.rtl_spelling.specs.Spelling.{Context, Said, goal_of_leaf}
 use Rattle.rtl_spelling.specs.Senses.{sense_of, cell_at}
-use Rattle.rtl_spelling.specs.Reading.{Trouble, Wrong, Deep, Read, ◌>>=◌, head_of, rest_of, gives, wrong, deep, is_sign, expect, index_on, index, hole_on, leaf_at, has_holes, hole, too_deep, Reader, address, right, operator_on, operator, after_relation, tested_on, tested, inside_on, inside, tree_on, tree, place_on, place, value_on, value, move, moves, transfer}
-use Rattle.rtl_spelling.proofs.Automaton.{Symbol, ATree, Inside, Operator, Tested, AfterRelation, Exactly, Index, HoleName, Place, Value, After, Stack, Step, below, tree_step, right_of, operator_step, tested_step, inside_step, place_step, value_step, behind_place, start, on_test, on_found, step, stands, followed, follow}
+use Rattle.rtl_spelling.specs.Reading.{Read, ◌>>=◌, head_of, rest_of, gives, wrong, deep, is_sign, expect, index_on, index, hole_on, leaf_at, has_holes, hole, too_deep, Reader, address, right, operator_on, operator, after_relation, tested_on, tested, inside_on, inside, tree_on, tree, place_on, place, value_on, value, move, moves, transfer}
+use Rattle.rtl_spelling.proofs.Automaton.{Symbol, ATree, Inside, Operator, Tested, AfterRelation, Exactly, Index, HoleName, Place, Value, After, Stack, Step, below, tree_step, right_of, operator_step, tested_step, inside_step, place_step, value_step, start, on_test, on_found, step, stands, stand, past, followed, follow}
 
 pub bind_assoc : {A B C : Type 0} (m : Read A) (g : A → List Token → Read B) (h : B → List Token → Read C) → ((m >>= g) >>= h) ≡ (m >>= λ x us. g x us >>= h)
 bind_assoc (Ok x) g h = refl
@@ -120,7 +118,7 @@ module _ (c : Context) (most : ℕ) where
 
   unary_is : (d : ℕ) (R : Reader) (o : UnOp) → Reads (suc d) R → (s : Stack) (ts : List Token)
       → follow c most (Exactly sign.Space ∷ ATree (suc d) ∷ Exactly sign.RightParen ∷ s) ts
-        ≡ ((expect sign.Space ts >>= λ _ us. R us >>= λ a us. expect sign.RightParen us >>= λ _ us. gives (Unary o a) us) >>= onward c most s)
+      ≡ ((expect sign.Space ts >>= λ _ us. R us >>= λ a us. expect sign.RightParen us >>= λ _ us. gives (Unary o a) us) >>= onward c most s)
   unary_is d R o r s ts =
       and_part (expect sign.Space) _ (exactly sign.Space) _ ts (onward c most s) (λ _ us.
       and_part R _ r _ us (onward c most s) (λ b us.
@@ -140,22 +138,24 @@ module _ (c : Context) (most : ℕ) where
       → follow c most (Exactly sign.Space ∷ Operator d ∷ s) ts ≡ (operator c R a ts >>= onward c most s)
   operator_follows d R a r s ts = and_part (expect sign.Space) _ (exactly sign.Space) _ ts (onward c most s) (λ _ us. operator_is d R a r s us)
 
-  space_is : (b : Bool) (d : ℕ) (R : Reader) (o : BinOp) (a : Tree) → Reads (suc d) R → (s : Stack) (t : Token) (ts : List Token) → is_sign sign.Space t ≡ b
-      → followed most (on_test b (right_of d) None) (t ∷ ts) (λ new. follow c most (new ++ s) ts) ≡ (right R o a (t ∷ ts) >>= onward c most s)
-  space_is b d R o a r s t ts e =
-      sym (ap (λ b. followed most (on_test b (right_of d) None) (t ∷ ts) (λ new. follow c most (new ++ s) ts)) e)
-      ∙ through (is_sign sign.Space t) ∙ right_is d R o a r s (t ∷ ts)
-    where
-      through : (b : Bool) → followed most (on_test b (right_of d) None) (t ∷ ts) (λ new. follow c most (new ++ s) ts)
-          ≡ followed most (on_test b [] None) (t ∷ ts) (λ new. follow c most (new ++ (ATree (suc d) ∷ Exactly sign.RightParen ∷ s)) ts)
-      through true = refl
-      through false = refl
+  pushed_on :
+      (b : Bool) (d : ℕ) (s : Stack) (t : Token) (ts : List Token)
+      → followed most (on_test b (right_of d) None) (t ∷ ts) (λ new. follow c most (new ++ s) ts)
+      ≡ followed most (on_test b [] None) (t ∷ ts) (λ new. follow c most (new ++ (ATree (suc d) ∷ Exactly sign.RightParen ∷ s)) ts)
+  pushed_on true d s t ts = refl
+  pushed_on false d s t ts = refl
+
+  space_is :
+      (d : ℕ) (R : Reader) (o : BinOp) (a : Tree) → Reads (suc d) R → (s : Stack) (t : Token) (ts : List Token)
+      → followed most (on_test (is_sign sign.Space t) (right_of d) None) (t ∷ ts) (λ new. follow c most (new ++ s) ts)
+      ≡ (right R o a (t ∷ ts) >>= onward c most s)
+  space_is d R o a r s t ts = pushed_on (is_sign sign.Space t) d s t ts ∙ right_is d R o a r s (t ∷ ts)
 
   after_relation_on : (b : Bool) (d : ℕ) (R : Reader) (r : Rel) (a : Tree) → Reads (suc d) R → (s : Stack) (t : Token) (ts : List Token)
       → followed most (on_test b [] (on_test (is_sign sign.Space t) (right_of d) None)) (t ∷ ts) (λ new. follow c most (new ++ s) ts)
-        ≡ (cond b (gives (Unary (Test r) a) ts) (right R (Cmp r) a (t ∷ ts)) >>= onward c most s)
+      ≡ (cond b (gives (Unary (Test r) a) ts) (right R (Cmp r) a (t ∷ ts)) >>= onward c most s)
   after_relation_on true d R r a read s t ts = refl
-  after_relation_on false d R r a read s t ts = space_is (is_sign sign.Space t) d R (Cmp r) a read s t ts refl
+  after_relation_on false d R r a read s t ts = space_is d R (Cmp r) a read s t ts
 
   after_relation_is : (d : ℕ) (R : Reader) (r : Rel) (a : Tree) → Reads (suc d) R → (s : Stack) (ts : List Token)
       → follow c most (AfterRelation d ∷ s) ts ≡ (after_relation R r a ts >>= onward c most s)
@@ -190,14 +190,14 @@ module _ (c : Context) (most : ℕ) where
 
   left_is : (d : ℕ) (R : Reader) → Reads (suc d) R → (s : Stack) (t : Token) (ts : List Token) (v : Sense) → sense_of c t ≡ v
       → followed most (below (Exactly sign.Space ∷ Operator d ∷ []) (tree_step c (suc d) v)) (t ∷ ts) (λ new. follow c most (new ++ s) ts)
-        ≡ ((R (t ∷ ts) >>= λ a us. operator c R a us) >>= onward c most s)
+      ≡ ((R (t ∷ ts) >>= λ a us. operator c R a us) >>= onward c most s)
   left_is d R r s t ts v e =
       through_tree (suc d) (Exactly sign.Space ∷ Operator d ∷ []) s t ts v e
       ∙ and_part R (λ a us. operator c R a us) r (Exactly sign.Space ∷ Operator d ∷ s) (t ∷ ts) (onward c most s) (λ a us. operator_follows d R a r s us)
 
   flag_is : (d : ℕ) (R : Reader) → Reads (suc d) R → (s : Stack) (t : Token) (ts : List Token) → sense_of c t ≡ sense.Bank FlagBank
       → followed most (below (Exactly sign.Space ∷ Tested d ∷ []) (tree_step c (suc d) (sense.Bank FlagBank))) (t ∷ ts) (λ new. follow c most (new ++ s) ts)
-        ≡ ((R (t ∷ ts) >>= λ a us. tested c R a us) >>= onward c most s)
+      ≡ ((R (t ∷ ts) >>= λ a us. tested c R a us) >>= onward c most s)
   flag_is d R r s t ts e =
       through_tree (suc d) (Exactly sign.Space ∷ Tested d ∷ []) s t ts (sense.Bank FlagBank) e
       ∙ and_part R (λ a us. tested c R a us) r (Exactly sign.Space ∷ Tested d ∷ s) (t ∷ ts) (onward c most s) (λ a us. tested_follows d R a r s us)
@@ -216,7 +216,7 @@ module _ (c : Context) (most : ℕ) where
   hole_is : (b : Bool) (d : ℕ) → stands most d ≡ true → (s : Stack) (t : Token) (ts : List Token) (g : Next Tree)
       → ((x : Tree) (us : List Token) → follow c most s us ≡ g x us)
       → followed most (cond b (Some (d, HoleName ∷ Exactly sign.Greater ∷ [])) None) (t ∷ ts) (λ new. follow c most (new ++ s) ts)
-        ≡ (cond b (hole_on ts (leaf_at c (head_of ts))) (wrong (t ∷ ts)) >>= g)
+      ≡ (cond b (hole_on ts (leaf_at c (head_of ts))) (wrong (t ∷ ts)) >>= g)
   hole_is true d h s t ts g each = rw h (hole_rest s ts g each)
   hole_is false d h s t ts g each = refl
 
@@ -236,7 +236,7 @@ module _ (c : Context) (most : ℕ) where
 
   deep_hole : (b : Bool) (d : ℕ) → stands most d ≡ false → (s : Stack) (t : Token) (ts : List Token)
       → followed most (cond b (Some (d, HoleName ∷ Exactly sign.Greater ∷ [])) None) (t ∷ ts) (λ new. follow c most (new ++ s) ts)
-        ≡ (cond b (deep {A = Tree} (t ∷ ts)) (wrong (t ∷ ts)) >>= onward c most s)
+      ≡ (cond b (deep {A = Tree} (t ∷ ts)) (wrong (t ∷ ts)) >>= onward c most s)
   deep_hole true d h s t ts = rw h refl
   deep_hole false d h s t ts = refl
 
@@ -252,20 +252,12 @@ module _ (c : Context) (most : ℕ) where
   too_deep_is d h s t ts (sense.Sign sign.Less) = deep_hole (has_holes c.holes) d h s t ts
   too_deep_is d h s t ts _ = refl
 
-  stands_not : (d : ℕ) → zero + d ≡ suc most → stands most d ≡ false
-  stands_not zero e = absurd (omega (arith, e))
-  stands_not (suc d) e = lt-leb (suc d) most (omega (arith, e))
-
-  pub stands_yes : (d : ℕ) → d ≤ most → stands most d ≡ true
-  stands_yes zero e = refl
-  stands_yes (suc d) e = le-leb (suc d) most e
-
   tree_is : (f d : ℕ) → f + d ≡ suc most → (s : Stack) (ts : List Token) → follow c most (ATree d ∷ s) ts ≡ (tree c f ts >>= onward c most s)
   tree_is zero d e s [] = refl
-  tree_is zero d e s (t ∷ ts) = too_deep_is d (stands_not d e) s t ts (sense_of c t)
+  tree_is zero d e s (t ∷ ts) = too_deep_is d (past most d (omega (arith, e))) s t ts (sense_of c t)
   tree_is (suc f) d e s [] = refl
   tree_is (suc f) d e s (t ∷ ts) =
-      tree_on_is d (tree c f) (stands_yes d (omega (arith, e))) (record { is = tree_is f (suc d) (omega (arith, e)) }) s t ts (sense_of c t)
+      tree_on_is d (tree c f) (stand most d (omega (arith, e))) (record { is = tree_is f (suc d) (omega (arith, e)) }) s t ts (sense_of c t)
 
   pub tree_follows : (f d : ℕ) → f + d ≡ suc most → Reads d (tree c f)
   tree_follows f d e = record { is = tree_is f d e }
@@ -274,15 +266,15 @@ module _ (c : Context) (most : ℕ) where
 
   place_on_is : (R : Reader) → 1 ≤ most → Reads 2 R → (s : Stack) (t : Token) (ts : List Token) (v : Sense)
       → followed most (place_step c v) (t ∷ ts) (λ new. follow c most (new ++ s) ts) ≡ (place_on c R (t ∷ ts) v >>= onward c most s)
-  place_on_is R h r s t ts (sense.Cell n) = rw (stands_yes 1 h) refl
+  place_on_is R h r s t ts (sense.Cell n) = rw (stand most 1 h) refl
   place_on_is R h r s t ts (sense.Bank b) =
-      rw (stands_yes 1 h) (index_is b s ts (λ x us. follow c most s us) (λ _ us. refl)
+      rw (stand most 1 h) (index_is b s ts (λ x us. follow c most s us) (λ _ us. refl)
       ∙ sym (bind_assoc (index b ts) (λ x us. gives (Some (ToCell x)) us) (onward c most s)))
   place_on_is R h r s t ts (sense.Memory w) =
-      rw (stands_yes 1 h) (address_is 2 R r s ts (λ x us. follow c most s us) (λ _ us. refl)
+      rw (stand most 1 h) (address_is 2 R r s ts (λ x us. follow c most s us) (λ _ us. refl)
       ∙ sym (bind_assoc (address R ts) (λ a us. gives (Some (ToMemory w a)) us) (onward c most s)))
   place_on_is R h r s t ts (sense.Sign sign.Less) =
-      hole_is (has_holes c.holes) 1 (stands_yes 1 h) s t ts (λ x us. follow c most s us) (λ _ us. refl)
+      hole_is (has_holes c.holes) 1 (stand most 1 h) s t ts (λ x us. follow c most s us) (λ _ us. refl)
       ∙ sym (bind_assoc (hole c (t ∷ ts)) (λ x us. gives (goal_of_leaf x) us) (onward c most s))
   place_on_is R h r s t ts _ = refl
 
@@ -359,7 +351,7 @@ module _ (c : Context) (most : ℕ) where
   fewer x s [] us e = absurd cc
   fewer x s (t ∷ ts) us e =
       let k : AtMost (length ts) (gives tt us) =
-            subst (λ r. AtMost (length ts) r) e (step_most (step c x t) (length ts) s (t ∷ ts) ts (λ s. at_most s ts)) in
+      subst (λ r. AtMost (length ts) r) e (step_most (step c x t) (length ts) s (t ∷ ts) ts (λ s. at_most s ts)) in
       omega (arith, k)
 
 module _ (c : Context) (f : ℕ) where
@@ -379,27 +371,27 @@ module _ (c : Context) (f : ℕ) where
 
   space_then : (b : Bool) (n : ℕ) (m : Said) → Whole n → (t : Token) (us : List Token) → length us ≤ n
       → followed (suc f) (on_test b [] None) (t ∷ us) (λ new. follow c (suc f) (new ++ start) us)
-        ≡ ((cond b (gives {A = Unit {0}} tt us) (wrong (t ∷ us)) >>= λ _ us. moves c f n us >>= λ ms us. gives (m ∷ ms) us) >>= onward c (suc f) [])
+      ≡ ((cond b (gives {A = Unit {0}} tt us) (wrong (t ∷ us)) >>= λ _ us. moves c f n us >>= λ ms us. gives (m ∷ ms) us) >>= onward c (suc f) [])
   space_then true n m whole t us le = whole us le ∙ sym (bind_assoc (moves c f n us) (λ ms us. gives (m ∷ ms) us) (onward c (suc f) []))
   space_then false n m whole t us le = refl
 
   next_is : (n : ℕ) (m : Said) → Whole n → (us : List Token) → length us ≤ n
       → follow c (suc f) (Exactly sign.Space ∷ start) us
-        ≡ ((expect sign.Space us >>= λ _ us. moves c f n us >>= λ ms us. gives (m ∷ ms) us) >>= onward c (suc f) [])
+      ≡ ((expect sign.Space us >>= λ _ us. moves c f n us >>= λ ms us. gives (m ∷ ms) us) >>= onward c (suc f) [])
   next_is n m whole [] le = refl
   next_is n m whole (t ∷ us) le = space_then (is_sign sign.Space t) n m whole t us (omega (arith, le))
 
   semicolon_then : (b : Bool) (n : ℕ) (m : Said) → Whole n → (t : Token) (us : List Token) → length us ≤ n
       → followed (suc f) (on_test b (Exactly sign.Space ∷ start) None) (t ∷ us) (λ new. follow c (suc f) (new ++ []) us)
-        ≡ ((cond b (gives {A = Unit {0}} tt us) (wrong (t ∷ us)) >>= λ _ us. expect sign.Space us >>= λ _ us. moves c f n us >>= λ ms us. gives (m ∷ ms) us)
-           >>= onward c (suc f) [])
+      ≡ ((cond b (gives {A = Unit {0}} tt us) (wrong (t ∷ us)) >>= λ _ us. expect sign.Space us >>= λ _ us. moves c f n us >>= λ ms us. gives (m ∷ ms) us)
+      >>= onward c (suc f) [])
   semicolon_then true n m whole t us le = next_is n m whole us le
   semicolon_then false n m whole t us le = refl
 
   behind_on : (b : Bool) (n : ℕ) (m : Said) → Whole n → (t : Token) (us : List Token) → length us ≤ n
       → followed (suc f) (on_test b [] (on_test (is_sign sign.Semicolon t) (Exactly sign.Space ∷ start) None)) (t ∷ us) (λ new. follow c (suc f) (new ++ []) us)
-        ≡ (cond b (gives (m ∷ []) us) (expect sign.Semicolon (t ∷ us) >>= λ _ us. expect sign.Space us >>= λ _ us. moves c f n us >>= λ ms us. gives (m ∷ ms) us)
-           >>= onward c (suc f) [])
+      ≡ (cond b (gives (m ∷ []) us) (expect sign.Semicolon (t ∷ us) >>= λ _ us. expect sign.Space us >>= λ _ us. moves c f n us >>= λ ms us. gives (m ∷ ms) us)
+      >>= onward c (suc f) [])
   behind_on true n m whole t us le = refl
   behind_on false n m whole t us le = semicolon_then (is_sign sign.Semicolon t) n m whole t us le
 

@@ -1,11 +1,10 @@
 -- A text falls into one list of tokens, and a list of tokens that end one another is read from its bytes.
-use Rattle.std.proofs.Common.{◌≡◌, ℕ, suc, ◌+◌, ◌≤◌, ◌<◌, false, List, [], ◌∷◌, ◌++◌, length, refl, sym, ap, subst, ◌∙◌, append_assoc, arith, inl, inr}
-use Rattle.std.proofs.lemmas.List.{length-append, append-nil}
+use Rattle.std.proofs.Common.{◌≡◌, ℕ, false, List, [], ◌∷◌, ◌++◌, length, refl, sym, ap, subst, ◌∙◌, arith, inl, inr}
 use Rattle.asm_token.specs.Tokens.{IsName, is_name_byte}
 use Rattle.rtl_spelling.specs.declared.signs.Sign.{Sign}
 use Rattle.rtl_spelling.specs.declared.signs.Sign.TheVariants as sign
-use Rattle.rtl_spelling.specs.Tokens.{Token, Word, Number, Mark, sign_bytes, spelling, spelled, IsNumber, IsToken, Longest, Lexes, at_end, one_token, BeginsNoToken, Stuck, here, after}
-use Rattle.rtl_spelling.specs.Spelling.{Context, IsContext, Said, IsSpelled}
+use Rattle.rtl_spelling.specs.Tokens.{Token, Word, Number, Mark, sign_bytes, spelling, spelled, IsNumber, IsToken, Longest, Lexes, at_end, one_token, Stuck, here, after}
+use Rattle.rtl_spelling.specs.Spelling.{Context, IsContext, Said}
 use Rattle.rtl_spelling.specs.Contract.{SpellsText}
 use Rattle.rtl_spelling.specs.Law.{ends, IsEnded}
 use Rattle.rtl_spelling.specs.Reading.{Trouble, reading}
@@ -134,9 +133,6 @@ abbrev pub Written : List Token → Type 0
 Written [] = ⊥
 Written (t ∷ []) = t ≡ Mark sign.End
 Written (t ∷ (u ∷ us)) = IsToken t × MayFollow t u × Written (u ∷ us)
-
-written_token : (t u : Token) (us : List Token) → Written (t ∷ u ∷ us) → IsToken t
-written_token t u us w = w.0
 
 any_end : (t : Token) (rest : List ℕ) → ((m : ℕ) → EndsAt t m) → Ended t rest
 any_end t [] h = tt

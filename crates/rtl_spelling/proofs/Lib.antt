@@ -15,3 +15,5 @@ pub mod Answered
 pub mod Shapes
 pub mod Lexed
 pub mod Printed
+pub mod Alone
+pub mod OneFault

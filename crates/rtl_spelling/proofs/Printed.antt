@@ -1,13 +1,14 @@
 -- What is printed spells what was printed.
-use Rattle.std.proofs.Common.{◌≡◌, ℕ, zero, suc, ◌+◌, ◌-◌, ◌^◌, ◌≤◌, ◌<◌, Bool, true, false, not, ◌&&◌, eqb, List, [], ◌∷◌, ◌++◌, length, get_or, Option, Some, None, ℤ, pos, negsuc, refl, sym, ap, subst, ◌∙◌, append_assoc, arith, inl, inr}
-use Rattle.std.specs.Prelude.{◌⊎◌, cond, codes, decimal, slice_get, max, nat_lt, nat_le, IsTrue, All, map}
+use Rattle.std.proofs.Common.{◌≡◌, ℕ, zero, suc, ◌+◌, ◌-◌, ◌^◌, ◌≤◌, ◌<◌, true, not, ◌&&◌, eqb, List, [], ◌∷◌, ◌++◌, length, get_or, Option, Some, refl, sym, ap, subst, ◌∙◌, append_assoc, arith, inl, inr}
+use Rattle.std.specs.Prelude.{◌⊎◌, codes, decimal, nat_le, All}
 use Rattle.std.specs.Fmt.{signed_decimal}
 use Rattle.std.specs.Char.{is_ascii_digit}
 use Rattle.std.specs.List.{AllPass, list_all}
-use Rattle.std.proofs.lemmas.Bool.{and_parts, and_from, or_left, or_right, ne_eqb, lt-ltb, le-ltb, leb-true, cases_lt}
+use Rattle.std.proofs.lemmas.Bool.{and_parts, and_from, ne_eqb, lt-ltb, le-ltb, leb-true, cases_lt}
 use Rattle.std.proofs.lemmas.Bool.Decides.{nat_tests}
 use Rattle.std.proofs.lemmas.Fmt.{digits_decimal, decimal_nonempty, first_decimal, decimal_digit}
-use Rattle.std.proofs.lemmas.List.Elements.{All-nil, All-cons, All-head, All-tail, All-weaker, All-get_or}
+use Rattle.std.proofs.lemmas.List.Elements.{All-head, All-tail, All-weaker, All-get_or}
+use Rattle.std.proofs.lemmas.List.Sums.{AllPass-from_list_all}
 use Rattle.std.proofs.lemmas.Option.{slice_get-get_or}
 use Rattle.asm_token.specs.Tokens.{is_name_start, is_name_byte}
 use Rattle.asm_token.proofs.Bytes.{digit_is_name}
@@ -28,31 +29,27 @@ use Rattle.rtl_tree.specs.declared.expressions.BinOp.TheVariants.{Add, Sub, Mul,
 use Rattle.rtl_tree.specs.Names.{IsName as IsCName, IsNameByte, AreNames}
 use Rattle.rtl_tree.specs.Trees.{Tree, Number as NumberTree, Symbol, CodeLabel, Read as ReadTree, Load, Unary, Binary, NoPair, AnyNumber, AnyName}
 use Rattle.rtl_tree.specs.Moves.{Goal, ToCell, ToMemory, Move}
-use Rattle.rtl_tree.specs.WellFormed.{depth, free_of, free_of_both, free_below, is_construct, is_flag, flags_tested, compares_for_flag, tests_flags, is_shallow, IsPlaced, IsWellFormed}
+use Rattle.rtl_tree.specs.WellFormed.{depth, free_of, free_below, is_construct, is_flag, flags_tested, compares_for_flag, tests_flags, is_shallow, IsPlaced, IsWellFormed}
 use Rattle.rtl_spelling.specs.declared.signs.Sign.{Sign}
 use Rattle.rtl_spelling.specs.declared.signs.Sign.TheVariants as sign
-use Rattle.rtl_spelling.specs.Tokens.{Token, Word, Number, Mark, is_nonzero_digit, IsMagnitude, IsNumber, IsToken}
-use Rattle.rtl_spelling.specs.Spelling.{Context, IsContext, Placed, starts, inner, mark, tokens_in, begun, cell_tokens, IsSpelledCell, name_token, memory_tokens, memory_word, unary_word, relation_word, operator_token, Spells, number, symbol, function, block, cell, memory, unary, binary, test, hole, Said, SpellsPlace, to_cell, to_memory, to_hole, SpellsMove, value, lost, SpellsTransfer, last, more, becomes, StandsBefore, IsSpelled}
-use Rattle.rtl_spelling.specs.Printing.{tree_tokens, goal_tokens, move_tokens, tokens_behind, tokens_of, text_of, IsPrintableCell, IsPrintableTree, IsPrintableGoal, IsPrintable, IsTypedCell, IsTypedTree, IsTypedGoal, IsTyped}
-use Rattle.rtl_spelling.specs.Contract.{said_of, SpellsText, TextSays}
-use Rattle.rtl_spelling.proofs.Automaton.{stands}
+use Rattle.rtl_spelling.specs.Tokens.{Token, Word, Number, Mark, IsMagnitude, IsNumber, IsToken}
+use Rattle.rtl_spelling.specs.Spelling.{Context, IsContext, Placed, starts, inner, mark, tokens_in, begun, cell_tokens, IsSpelledCell, name_token, memory_tokens, memory_word, unary_word, relation_word, operator_token, Spells, number, symbol, function, block, cell, memory, unary, binary, test, Said, SpellsPlace, to_cell, to_memory, SpellsMove, value, lost, SpellsTransfer, last, more, becomes, StandsBefore}
+use Rattle.rtl_spelling.specs.Printing.{tree_tokens, goal_tokens, move_tokens, tokens_of, text_of, IsPrintableCell, IsPrintableTree, IsPrintableGoal, IsPrintable, IsTypedCell, IsTypedTree, IsTypedGoal, IsTyped}
+use Rattle.rtl_spelling.specs.Contract.{said_of, TextSays}
 use Rattle.rtl_spelling.proofs.Traces.{Within}
-use Rattle.rtl_spelling.proofs.Begun.{stand, within_from}
+use Rattle.rtl_spelling.proofs.Automaton.{stand}
+use Rattle.rtl_spelling.proofs.Begun.{within_from}
 use Rattle.rtl_spelling.proofs.Numbers.{AreDigits, own}
 use Rattle.rtl_spelling.proofs.Ends.{tokens_append}
 use Rattle.rtl_spelling.proofs.Lexed.{MayFollow, Written, written_lexed}
 
 -- ---- the tokens are tokens
 
-all_pass : (p : ℕ → Bool) (xs : List ℕ) → list_all p xs ≡ true → AllPass p xs
-all_pass p [] h = All-nil (λ x. p x ≡ true)
-all_pass p (x ∷ xs) h = let r = and_parts (p x) (list_all p xs) h in All-cons (λ x. p x ≡ true) x xs r.0 (all_pass p xs r.1)
-
 magnitude_of : (ds : List ℕ) → AreDigits ds → 0 < length ds → 48 < get_or ds 0 0 → IsMagnitude ds
 magnitude_of [] a l h = absurd (omega (arith, l))
 magnitude_of (d ∷ ds) a l h =
     let r = and_parts (is_ascii_digit d) (list_all is_ascii_digit ds) a in
-    (and_from (is_ascii_digit d) (not (eqb d 48)) r.0 (ap not (ne_eqb d 48 (λ e. omega (arith, h, e)))), all_pass is_ascii_digit ds r.1)
+    (and_from (is_ascii_digit d) (not (eqb d 48)) r.0 (ap not (ne_eqb d 48 (λ e. omega (arith, h, e)))), AllPass-from_list_all is_ascii_digit ds r.1)
 
 decimal_magnitude : (n : ℕ) → 0 < n → n < 2 ^ 64 → IsMagnitude (decimal n)
 decimal_magnitude n some small = magnitude_of (decimal n) (digits_decimal own n small) (decimal_nonempty n small) (first_decimal n some small)
@@ -85,7 +82,7 @@ name_is_token ns k h l = (refl, name_bytes (get_or ns k []) (All-get_or IsCName 
 
 block_is_token : (k : ℕ) → k < 2 ^ 64 → IsToken (Word (76 ∷ decimal k))
 block_is_token k small =
-    (refl, All-weaker (λ b. is_ascii_digit b ≡ true) (λ b. is_name_byte b ≡ true) digit_is_name (decimal k) (all_pass is_ascii_digit (decimal k) (digits_decimal own k small)))
+    (refl, All-weaker (λ b. is_ascii_digit b ≡ true) (λ b. is_name_byte b ≡ true) digit_is_name (decimal k) (AllPass-from_list_all is_ascii_digit (decimal k) (digits_decimal own k small)))
 
 -- ---- written tokens
 
@@ -94,7 +91,7 @@ cons_written t [] h f w = absurd w
 cons_written t (u ∷ us) h f w = (h, f u, w)
 
 word_token : (b : ℕ) (bs : List ℕ) → is_name_start b ≡ true → list_all is_name_byte bs ≡ true → IsToken (Word (b ∷ bs))
-word_token b bs h k = (h, all_pass is_name_byte bs k)
+word_token b bs h k = (h, AllPass-from_list_all is_name_byte bs k)
 
 relation_token : (r : Rel) → IsToken (Word (relation_word r))
 relation_token Eq = word_token 101 (codes "q") refl refl
@@ -195,7 +192,7 @@ cell_within most d Output h = (stand most d h, tt)
 cell_within most d Halt h = (stand most d h, tt)
 cell_within most d (Hole n) h = tt
 
-cell_begun : (d : ℕ) (x : Cell) → tokens_in (begun d (cell_tokens x)) ≡ cell_tokens x
+pub cell_begun : (d : ℕ) (x : Cell) → tokens_in (begun d (cell_tokens x)) ≡ cell_tokens x
 cell_begun d (Hard n) = refl
 cell_begun d (Temp n) = refl
 cell_begun d (Flag n) = refl
@@ -237,7 +234,7 @@ module _ (c : Context) (k : IsContext c) where
   memory_written : (w : Width) (ts : List Token) → IsWritten ts → IsWritten (Word (memory_word w) ∷ Mark sign.LeftBracket ∷ (ts ++ Mark sign.RightBracket ∷ []))
   memory_written w ts h s rest r =
       let inside : Written (Mark sign.LeftBracket ∷ (ts ++ Mark sign.RightBracket ∷ Mark s ∷ rest)) =
-            opened (Mark sign.LeftBracket) ts sign.RightBracket (Mark s ∷ rest) tt (λ u. tt) h (tt, tt, r) in
+      opened (Mark sign.LeftBracket) ts sign.RightBracket (Mark s ∷ rest) tt (λ u. tt) h (tt, tt, r) in
       let whole : Written (Word (memory_word w) ∷ Mark sign.LeftBracket ∷ (ts ++ Mark sign.RightBracket ∷ Mark s ∷ rest)) = (memory_token w, tt, inside) in
       subst (λ l. Written (Word (memory_word w) ∷ Mark sign.LeftBracket ∷ l)) (sym (append_assoc ts (Mark sign.RightBracket ∷ []) (Mark s ∷ rest))) whole
 
@@ -253,7 +250,7 @@ module _ (c : Context) (k : IsContext c) where
   unary_written : (o : UnOp) (ts : List Token) → StandsBefore o → IsWritten ts → IsWritten (Mark sign.LeftParen ∷ Word (unary_word o) ∷ Mark sign.Space ∷ (ts ++ Mark sign.RightParen ∷ []))
   unary_written o ts b h s rest r =
       let inside : Written (Mark sign.Space ∷ (ts ++ Mark sign.RightParen ∷ Mark s ∷ rest)) =
-            opened (Mark sign.Space) ts sign.RightParen (Mark s ∷ rest) tt (λ u. tt) h (tt, tt, r) in
+      opened (Mark sign.Space) ts sign.RightParen (Mark s ∷ rest) tt (λ u. tt) h (tt, tt, r) in
       let whole : Written (Mark sign.LeftParen ∷ Word (unary_word o) ∷ Mark sign.Space ∷ (ts ++ Mark sign.RightParen ∷ Mark s ∷ rest)) = (tt, tt, (unary_token o b, tt, inside)) in
       subst (λ l. Written (Mark sign.LeftParen ∷ Word (unary_word o) ∷ Mark sign.Space ∷ l)) (sym (append_assoc ts (Mark sign.RightParen ∷ []) (Mark s ∷ rest))) whole
 
@@ -271,12 +268,12 @@ module _ (c : Context) (k : IsContext c) where
       → IsWritten (Mark sign.LeftParen ∷ (ts ++ Mark sign.Space ∷ operator_token o ∷ Mark sign.Space ∷ (us ++ Mark sign.RightParen ∷ [])))
   binary_written o ts us h i s rest r =
       let right : Written (Mark sign.Space ∷ (us ++ Mark sign.RightParen ∷ Mark s ∷ rest)) =
-            opened (Mark sign.Space) us sign.RightParen (Mark s ∷ rest) tt (λ u. tt) i (tt, tt, r) in
+      opened (Mark sign.Space) us sign.RightParen (Mark s ∷ rest) tt (λ u. tt) i (tt, tt, r) in
       let whole : Written (Mark sign.LeftParen ∷ (ts ++ Mark sign.Space ∷ operator_token o ∷ Mark sign.Space ∷ (us ++ Mark sign.RightParen ∷ Mark s ∷ rest))) =
-            opened (Mark sign.LeftParen) ts sign.Space (operator_token o ∷ Mark sign.Space ∷ (us ++ Mark sign.RightParen ∷ Mark s ∷ rest)) tt (λ u. tt) h (operator_written o _ right) in
+      opened (Mark sign.LeftParen) ts sign.Space (operator_token o ∷ Mark sign.Space ∷ (us ++ Mark sign.RightParen ∷ Mark s ∷ rest)) tt (λ u. tt) h (operator_written o _ right) in
       subst (λ l. Written (Mark sign.LeftParen ∷ l))
       (sym (append_assoc ts (Mark sign.Space ∷ operator_token o ∷ Mark sign.Space ∷ (us ++ Mark sign.RightParen ∷ [])) (Mark s ∷ rest)
-          ∙ ap (λ l. ts ++ Mark sign.Space ∷ operator_token o ∷ Mark sign.Space ∷ l) (append_assoc us (Mark sign.RightParen ∷ []) (Mark s ∷ rest)))) whole
+      ∙ ap (λ l. ts ++ Mark sign.Space ∷ operator_token o ∷ Mark sign.Space ∷ l) (append_assoc us (Mark sign.RightParen ∷ []) (Mark s ∷ rest)))) whole
 
   binary_printed : (d : ℕ) (o : BinOp) (a b : Tree) → Printed (suc d) a → Printed (suc d) b → Printed d (Binary o a b)
   binary_printed d o a b p q = record {
@@ -286,9 +283,11 @@ module _ (c : Context) (k : IsContext c) where
         ∙ (λ i. p.tokens i ++ Mark sign.Space ∷ operator_token o ∷ Mark sign.Space ∷ closed_tokens q.placed (tree_tokens c b) sign.RightParen q.tokens i));
     spells = binary d o a b p.placed q.placed p.spells q.spells;
     written = binary_written o (tree_tokens c a) (tree_tokens c b) p.written q.written;
-    within = λ most le. (stand most d (omega (arith, le)),
-        within_append most p.placed (mark sign.Space ∷ inner (operator_token o) ∷ mark sign.Space ∷ (q.placed ++ mark sign.RightParen ∷ [])) (p.within most (omega (arith, le)))
-        (refl, (refl, (refl, within_append most q.placed (mark sign.RightParen ∷ []) (q.within most (omega (arith, le))) (refl, tt)))));
+    within = λ most le. (
+      stand most d (omega (arith, le)),
+      within_append most p.placed (mark sign.Space ∷ inner (operator_token o) ∷ mark sign.Space ∷ (q.placed ++ mark sign.RightParen ∷ [])) (p.within most (omega (arith, le)))
+          (refl, (refl, (refl, within_append most q.placed (mark sign.RightParen ∷ []) (q.within most (omega (arith, le))) (refl, tt)))),
+    );
   }
 
   test_printed : (d : ℕ) (r : Rel) (a : Tree) → is_flag a ≡ true → IsPrintableTree c a → Printed d (Unary (Test r) a)
@@ -296,8 +295,12 @@ module _ (c : Context) (k : IsContext c) where
     placed = starts d (Mark sign.LeftParen) ∷ (begun (suc d) (cell_tokens (Flag n)) ++ mark sign.Space ∷ inner (Word (relation_word r)) ∷ mark sign.RightParen ∷ []);
     tokens = refl;
     spells = test d r n h;
-    written = λ s rest w. (tt, tt, index_written (codes "f") n (word_token 102 [] refl refl) (omega (arith, h)) sign.Space (Word (relation_word r) ∷ Mark sign.RightParen ∷ Mark s ∷ rest)
-        (tt, tt, (relation_token r, tt, (tt, tt, w))));
+    written = λ s rest w. (
+      tt,
+      tt,
+      index_written (codes "f") n (word_token 102 [] refl refl) (omega (arith, h)) sign.Space (Word (relation_word r) ∷ Mark sign.RightParen ∷ Mark s ∷ rest)
+          (tt, tt, (relation_token r, tt, (tt, tt, w))),
+    );
     within = λ most le. (stand most d (omega (arith, le)), (stand most (suc d) (omega (arith, le)), (refl, (refl, (refl, (refl, (refl, (refl, tt))))))));
   }
   test_printed d r _ e h = absurd cc

@@ -1,13 +1,11 @@
 -- Runs of the automaton: over a spelling it passes from what is expected to what stands below.
-use Rattle.std.proofs.Common.{◌≡◌, ℕ, zero, suc, ◌+◌, ◌≤◌, ◌<◌, Bool, true, false, List, [], ◌∷◌, ◌++◌, length, Option, Some, None, refl, sym, ap, subst, ◌∙◌, append_assoc, arith, inl, inr}
+use Rattle.std.proofs.Common.{◌≡◌, ℕ, suc, ◌<◌, Bool, true, List, [], ◌∷◌, ◌++◌, length, Option, Some, None, refl, sym, ap, subst, ◌∙◌, append_assoc, arith, inl, inr}
 use Rattle.std.specs.Prelude.{◌⊎◌, cond, decimal, codes}
 use Rattle.std.specs.Fmt.{signed_decimal}
 use Rattle.rtl_word.specs.Words.{word_signed}
 use Rattle.rtl_word.specs.declared.Rel.{Rel}
 use Rattle.rtl_tree.specs.declared.cells.Cell.{Cell}
 use Rattle.rtl_tree.specs.declared.cells.Cell.TheVariants.{Hard, Temp, Flag, Pc, Input, Output, Halt, Hole}
-use Rattle.rtl_tree.specs.declared.expressions.UnOp.{UnOp}
-use Rattle.rtl_tree.specs.declared.expressions.UnOp.TheVariants.{Test}
 use Rattle.rtl_tree.specs.declared.expressions.BinOp.{BinOp}
 use Rattle.rtl_tree.specs.declared.expressions.BinOp.TheVariants.{Cmp}
 use Rattle.rtl_tree.specs.Trees.{Tree}
@@ -20,11 +18,11 @@ use Rattle.rtl_spelling.specs.declared.senses.Sense.{Sense}
 use Rattle.rtl_spelling.specs.declared.senses.Sense.TheVariants as sense
 use Rattle.rtl_spelling.specs.Tokens.{Token, Word, Number, Mark}
 use Rattle.rtl_spelling.specs.Holes.{Open, leaf_named}
-use Rattle.rtl_spelling.specs.Spelling.{Context, IsContext, Placed, starts, inner, mark, tokens_in, begun, cell_tokens, IsSpelledCell, hole_tokens, memory_tokens, relation_word, operator_token, Spells, number, symbol, function, block, cell, memory, unary, binary, test, hole, Said, SpellsPlace, to_cell, to_memory, to_hole, SpellsMove, value, lost, SpellsTransfer, last, more, becomes, name_token}
-use Rattle.rtl_spelling.specs.Senses.{sense_of, cell_at, bank_size}
-use Rattle.rtl_spelling.specs.Reading.{is_sign, leaf_at, has_holes}
+use Rattle.rtl_spelling.specs.Spelling.{Context, IsContext, Placed, starts, inner, mark, begun, cell_tokens, IsSpelledCell, hole_tokens, relation_word, operator_token, Spells, number, symbol, function, block, cell, memory, unary, binary, test, hole, Said, SpellsPlace, to_cell, to_memory, to_hole, SpellsMove, value, lost, SpellsTransfer, last, more, becomes, name_token}
+use Rattle.rtl_spelling.specs.Senses.{sense_of, bank_size}
+use Rattle.rtl_spelling.specs.Reading.{has_holes}
 use Rattle.rtl_spelling.proofs.Told.{number_told, object_told, function_told, block_told, memory_told, unary_told, operator_told, index_told, same_sign_itself}
-use Rattle.rtl_spelling.proofs.Automaton.{Symbol, ATree, Inside, Operator, Tested, AfterRelation, Exactly, Index, HoleName, Place, Value, After, Stack, Step, below, tree_step, right_of, operator_step, tested_step, inside_step, place_step, value_step, behind_place, start, on_test, on_found, step}
+use Rattle.rtl_spelling.proofs.Automaton.{Symbol, ATree, Inside, Operator, Tested, AfterRelation, Exactly, Index, HoleName, Place, Value, After, Stack, Step, below, tree_step, right_of, operator_step, tested_step, inside_step, place_step, value_step, start, on_test, on_found, step}
 
 -- the automaton passes over the tokens, which begin trees at these depths
 abbrev pub Run : Context → Stack → List Placed → Stack → Type 0
@@ -51,9 +49,6 @@ module _ (c : Context) where
 
   pub exactly_step : (s : Sign) → step c (Exactly s) (Mark s) ≡ Some (0, [])
   exactly_step s = ap (λ b. on_test b [] None) (same_sign_itself s)
-
-  pub exactly_run : (g : Sign) (qs : List Placed) (s r : Stack) → Run c s qs r → Run c (Exactly g ∷ s) (mark g ∷ qs) r
-  exactly_run g qs s r k = ([], exactly_step g, k)
 
   brackets_run : (b : Bank) (n : ℕ) → n < bank_size b → (s : Stack)
       → Run c (Exactly sign.LeftBracket ∷ Index b ∷ Exactly sign.RightBracket ∷ s) (mark sign.LeftBracket ∷ inner (Number (decimal n)) ∷ mark sign.RightBracket ∷ []) s
@@ -136,9 +131,6 @@ module _ (c : Context) where
   abbrev Left : ℕ → Stack → Symbol → List Placed → Type 0
   Left d s x ps = Run c (Inside d ∷ s) ps (Exactly sign.Space ∷ x ∷ s)
 
-  below_step : (S : Stack) (o : Step) (d : ℕ) (new : Stack) → o ≡ Some (d, new) → below S o ≡ Some (d, new ++ S)
-  below_step S o d new e = ap (below S) e
-
   left_from : (d : ℕ) (p : Placed) (ps : List Placed) (s : Stack) (x : Symbol) (new : Stack)
       → inside_step c d (sense_of c p.token) ≡ Some (p.depth, new ++ Exactly sign.Space ∷ x ∷ []) → Run c (new ++ Exactly sign.Space ∷ x ∷ s) ps (Exactly sign.Space ∷ x ∷ s)
       → Left d s x (p ∷ ps)
@@ -163,26 +155,36 @@ module _ (c : Context) where
 
   binary_run : (d : ℕ) (o : BinOp) (ps qs : List Placed) → Passes c (ATree (suc d)) ps → Passes c (ATree (suc d)) qs
       → Passes c (ATree d)
-        (starts d (Mark sign.LeftParen)
-         ∷ (ps ++ mark sign.Space ∷ inner (operator_token o) ∷ mark sign.Space ∷ (qs ++ mark sign.RightParen ∷ [])))
-  binary_run d o ps qs h k s = (Inside d ∷ [], refl, elim (left_run d ps s h) as (λ _. Run c (Inside d ∷ s) (ps ++ mark sign.Space ∷ inner (operator_token o) ∷ mark sign.Space ∷ (qs ++ mark sign.RightParen ∷ [])) s) [
-    | inl l ↦ run_append c ps _ (Inside d ∷ s) (Exactly sign.Space ∷ Operator d ∷ s) s l (operator_run d o qs k s)
-    | inr l ↦ run_append c ps _ (Inside d ∷ s) (Exactly sign.Space ∷ Tested d ∷ s) s l (tested_run d o qs k s)
-  ])
+      (starts d (Mark sign.LeftParen)
+      ∷ (ps ++ mark sign.Space ∷ inner (operator_token o) ∷ mark sign.Space ∷ (qs ++ mark sign.RightParen ∷ [])))
+  binary_run d o ps qs h k s = (
+    Inside d ∷ [],
+    refl,
+    elim (left_run d ps s h) as (λ _. Run c (Inside d ∷ s) (ps ++ mark sign.Space ∷ inner (operator_token o) ∷ mark sign.Space ∷ (qs ++ mark sign.RightParen ∷ [])) s) [
+      | inl l ↦ run_append c ps _ (Inside d ∷ s) (Exactly sign.Space ∷ Operator d ∷ s) s l (operator_run d o qs k s)
+      | inr l ↦ run_append c ps _ (Inside d ∷ s) (Exactly sign.Space ∷ Tested d ∷ s) s l (tested_run d o qs k s)
+    ],
+  )
 
   test_run : (d : ℕ) (r : Rel) (n : ℕ) → n < 8
       → Passes c (ATree d)
-        (starts d (Mark sign.LeftParen)
-         ∷ (begun (suc d) (cell_tokens (Flag n)) ++ mark sign.Space ∷ inner (Word (relation_word r)) ∷ mark sign.RightParen ∷ []))
+      (starts d (Mark sign.LeftParen)
+      ∷ (begun (suc d) (cell_tokens (Flag n)) ++ mark sign.Space ∷ inner (Word (relation_word r)) ∷ mark sign.RightParen ∷ []))
   test_run d r n l s =
       let behind : Run c (Exactly sign.Space ∷ Tested d ∷ s) (mark sign.Space ∷ inner (Word (relation_word r)) ∷ mark sign.RightParen ∷ []) s =
-            ([], refl, (AfterRelation d ∷ [], ap (tested_step d) (operator_told c (Cmp r)), ([], refl, refl))) in
+      ([], refl, (AfterRelation d ∷ [], ap (tested_step d) (operator_told c (Cmp r)), ([], refl, refl))) in
       let front : Run c (Exactly sign.LeftBracket ∷ Index FlagBank ∷ Exactly sign.RightBracket ∷ Exactly sign.Space ∷ Tested d ∷ s) (mark sign.LeftBracket ∷ inner (Number (decimal n)) ∷ mark sign.RightBracket ∷ []) (Exactly sign.Space ∷ Tested d ∷ s) =
-            brackets_run FlagBank n l (Exactly sign.Space ∷ Tested d ∷ s) in
-      (Inside d ∷ [], refl, (bracketed FlagBank ++ (Exactly sign.Space ∷ Tested d ∷ []), refl,
-      run_append c (mark sign.LeftBracket ∷ inner (Number (decimal n)) ∷ mark sign.RightBracket ∷ [])
-      (mark sign.Space ∷ inner (Word (relation_word r)) ∷ mark sign.RightParen ∷ [])
-      (Exactly sign.LeftBracket ∷ Index FlagBank ∷ Exactly sign.RightBracket ∷ Exactly sign.Space ∷ Tested d ∷ s) (Exactly sign.Space ∷ Tested d ∷ s) s front behind))
+      brackets_run FlagBank n l (Exactly sign.Space ∷ Tested d ∷ s) in (
+        Inside d ∷ [],
+        refl,
+        (
+          bracketed FlagBank ++ (Exactly sign.Space ∷ Tested d ∷ []),
+          refl,
+          run_append c (mark sign.LeftBracket ∷ inner (Number (decimal n)) ∷ mark sign.RightBracket ∷ [])
+              (mark sign.Space ∷ inner (Word (relation_word r)) ∷ mark sign.RightParen ∷ [])
+              (Exactly sign.LeftBracket ∷ Index FlagBank ∷ Exactly sign.RightBracket ∷ Exactly sign.Space ∷ Tested d ∷ s) (Exactly sign.Space ∷ Tested d ∷ s) s front behind,
+        ),
+      )
 
   -- over a spelling the automaton passes
   pub spells_run : (k : IsContext c) (d : ℕ) (t : Tree) (ps : List Placed) → Spells c d t ps → Passes c (ATree d) ps

@@ -17,9 +17,9 @@ use Rattle.rtl_spelling.specs.declared.senses.Sense.{Sense}
 use Rattle.rtl_spelling.specs.declared.senses.Sense.TheVariants as sense
 use Rattle.rtl_spelling.specs.Tokens.{Token, Word, Number, Mark}
 use Rattle.rtl_spelling.specs.Spelling.{Context, IsContext, name_token, memory_word, unary_word, StandsBefore, operator_token, cell_tokens, IsSpelledCell}
-use Rattle.rtl_spelling.specs.Senses.{keywords, sense_among, word_sense, sense_of, number_sense, name_sense, function_sense, block_sense, cell_at, bank_size, bank_cell, place_among, word_spelled, number_below}
+use Rattle.rtl_spelling.specs.Senses.{keywords, sense_among, sense_of, number_sense, name_sense, function_sense, block_sense, cell_at, bank_size, bank_cell, place_among, word_spelled, number_below}
 use Rattle.rtl_spelling.specs.Reading.{same_sign, is_sign}
-use Rattle.rtl_spelling.proofs.Numbers.{word_spelled_is, number_below_is, IsNumeralOf, place_among_is, equal_bytes}
+use Rattle.rtl_spelling.proofs.Numbers.{word_spelled_is, number_below_is, place_among_is, equal_bytes}
 
 abbrev pub bank_word : Bank → List ℕ
 bank_word Register = codes "r"
@@ -67,9 +67,43 @@ module _ (c : Context) (k : IsContext c) where
   mark_says sign.End = refl
 
   keywords_say : AllByRecursion (λ w. Says c (Word w.0) w.1) keywords
-  keywords_say =
-      (refl, (refl, (refl, ((tt, refl), ((tt, refl), ((tt, refl), ((tt, refl), (refl, (refl, ((tt, refl), ((tt, refl), ((tt, refl),
-      (refl, (refl, (refl, (refl, (refl, (refl, (refl, (refl, (refl, (refl, (refl, (refl, (refl, (refl, (refl, (refl, (refl, (refl, tt))))))))))))))))))))))))))))))
+  keywords_say = (
+    refl,
+    (
+      refl,
+      (
+        refl,
+        (
+          (tt, refl),
+          (
+            (tt, refl),
+            (
+              (tt, refl),
+              (
+                (tt, refl),
+                (
+                  refl,
+                  (
+                    refl,
+                    (
+                      (tt, refl),
+                      (
+                        (tt, refl),
+                        (
+                          (tt, refl),
+                          (refl, (refl, (refl, (refl, (refl, (refl, (refl, (refl, (refl, (refl, (refl, (refl, (refl, (refl, (refl, (refl, (refl, (refl, tt)))))))))))))))))),
+                        ),
+                      ),
+                    ),
+                  ),
+                ),
+              ),
+            ),
+          ),
+        ),
+      ),
+    ),
+  )
 
   among_on : (t : Bool) (w : List ℕ × Sense) (ks : List (List ℕ × Sense)) (bs : List ℕ) → bytes_eq w.0 bs ≡ t → Says c (Word w.0) w.1 → Says c (Word bs) (sense_among ks bs)
       → Says c (Word bs) (cond t w.1 (sense_among ks bs))

@@ -1,13 +1,12 @@
 -- What a token can be, by its bytes.
-use Rattle.std.proofs.Common.{◌≡◌, ℕ, zero, suc, ◌+◌, ◌≤◌, ◌<◌, Bool, true, false, not, ◌&&◌, eqb, cond, List, [], ◌∷◌, ◌++◌, length, refl, sym, ap, subst, ◌∙◌, append_assoc, arith, inl, inr}
-use Rattle.std.specs.Prelude.{◌⊎◌, codes, IsTrue}
+use Rattle.std.proofs.Common.{◌≡◌, ℕ, ◌<◌, Bool, true, false, ◌&&◌, eqb, cond, List, [], ◌∷◌, ◌++◌, length, refl, sym, ap, subst, ◌∙◌, arith, inl, inr}
+use Rattle.std.specs.Prelude.{◌⊎◌, codes}
 use Rattle.std.specs.Char.{is_ascii_digit}
 use Rattle.std.specs.List.{AllPass}
 use Rattle.std.specs.Str.{bytes_eq}
-use Rattle.std.proofs.lemmas.Bool.{and_parts, and_from, cases_lt}
-use Rattle.std.proofs.lemmas.Bool.Decides.{nat_tests}
+use Rattle.std.proofs.lemmas.Bool.{and_parts, cases_lt}
 use Rattle.std.proofs.lemmas.List.{length-append}
-use Rattle.std.proofs.lemmas.List.Elements.{All-nil, All-cons, All-head, All-tail}
+use Rattle.std.proofs.lemmas.List.Elements.{All-head, All-tail}
 use Rattle.asm_token.specs.Tokens.{IsName, is_name_start, is_name_byte}
 use Rattle.asm_token.proofs.Bytes.{start_is_name, digit_is_name, digit_no_start}
 use Rattle.rtl_spelling.specs.declared.signs.Sign.{Sign}
@@ -175,9 +174,6 @@ longer_magnitude (d ∷ ds) ms m h k = all_middle is_ascii_digit ds ms m k.1
 longer_than_arrow : (ds ms : List ℕ) (m : ℕ) → IsMagnitude ds → ds ++ m ∷ ms ≡ 62 ∷ [] → ⊥
 longer_than_arrow [] ms m h e = absurd h
 longer_than_arrow (d ∷ ds) ms m h e = omega (arith, ap length e, length-append ds (m ∷ ms))
-
-minus_start : (b : ℕ) → b ≡ 45 → is_name_byte b ≡ false
-minus_start b e = ap is_name_byte e
 
 negative_no_longer : (b m : ℕ) (ds ms : List ℕ) → b ≡ 45 → IsMagnitude ds → is_name_byte m ≡ false → Shape b (ds ++ m ∷ ms) → ⊥
 negative_no_longer b m ds ms e h n (word k all) = absurd (let z : is_name_start 45 ≡ true = ap is_name_start (sym e) ∙ k in cc)

@@ -1,10 +1,9 @@
 -- What is read is spelled so.
-use Rattle.std.proofs.Common.{◌≡◌, ℕ, zero, suc, ◌+◌, ◌≤◌, ◌<◌, Bool, true, false, List, [], ◌∷◌, ◌++◌, length, Option, Some, None, Ok, Err, refl, sym, ap, subst, ◌∙◌, append_assoc, arith, inl, inr}
+use Rattle.std.proofs.Common.{◌≡◌, ℕ, zero, suc, ◌<◌, Bool, true, false, List, [], ◌∷◌, ◌++◌, length, Option, Some, None, Ok, Err, refl, sym, ap, subst, ◌∙◌}
 use Rattle.std.specs.Prelude.{cond, codes, decimal, map}
-use Rattle.std.proofs.lemmas.List.{map-append}
 use Rattle.rtl_word.specs.declared.Rel.{Rel}
 use Rattle.rtl_tree.specs.declared.cells.Cell.{Cell}
-use Rattle.rtl_tree.specs.declared.cells.Cell.TheVariants.{Hard, Temp, Flag}
+use Rattle.rtl_tree.specs.declared.cells.Cell.TheVariants.{Flag}
 use Rattle.rtl_tree.specs.declared.cells.Lab.TheVariants.{Block, Function}
 use Rattle.rtl_tree.specs.declared.expressions.Width.{Width}
 use Rattle.rtl_tree.specs.declared.expressions.UnOp.{UnOp}
@@ -21,10 +20,10 @@ use Rattle.rtl_spelling.specs.declared.senses.Sense.{Sense}
 use Rattle.rtl_spelling.specs.declared.senses.Sense.TheVariants as sense
 use Rattle.rtl_spelling.specs.Tokens.{Token, Word, Number, Mark}
 use Rattle.rtl_spelling.specs.Holes.{leaf_named}
-use Rattle.rtl_spelling.specs.Spelling.{Context, IsContext, Placed, starts, inner, mark, tokens_in, begun, cell_tokens, IsSpelledCell, name_token, hole_tokens, memory_tokens, memory_word, unary_word, relation_word, operator_token, Spells, number, symbol, function, block, cell, memory, unary, binary, test, hole, Said, goal_of_leaf, SpellsPlace, to_cell, to_memory, to_hole, SpellsMove, value, lost, SpellsTransfer, last, more, becomes}
+use Rattle.rtl_spelling.specs.Spelling.{Context, IsContext, Placed, starts, inner, mark, tokens_in, begun, cell_tokens, IsSpelledCell, hole_tokens, memory_tokens, memory_word, unary_word, relation_word, operator_token, Spells, number, symbol, function, block, cell, memory, unary, binary, test, hole, Said, goal_of_leaf, SpellsPlace, to_cell, to_memory, to_hole, SpellsMove, value, lost, SpellsTransfer, last, more, becomes}
 use Rattle.rtl_spelling.specs.Senses.{sense_of, cell_at, bank_cell, bank_size}
 use Rattle.rtl_spelling.specs.Reading.{Read, ◌>>=◌, head_of, rest_of, gives, wrong, deep, is_sign, expect, index_on, index, hole_on, leaf_at, has_holes, hole as read_hole, too_deep, Reader, address, right, operator_on, operator, after_relation, tested_on, tested, inside_on, inside, tree_on, tree, place_on, place, value_on, value as read_value, move, moves, transfer}
-use Rattle.rtl_spelling.proofs.Says.{Says, says, bank_word, IndexSays, index_says, is_sign_is}
+use Rattle.rtl_spelling.proofs.Says.{Says, says, bank_word, index_says, is_sign_is}
 
 -- the reading, where it gives something, gives what is so
 abbrev pub Gives : {A : Type 0} → (A → List Token → Type 0) → Read A → Type 0

@@ -1,10 +1,9 @@
 -- What the tokens of a spelling say.
-use Rattle.std.proofs.Common.{◌≡◌, ℕ, ◌^◌, ◌≤◌, ◌<◌, true, List, [], ◌∷◌, Option, Some, None, refl, sym, ap, ◌∙◌, arith}
-use Rattle.std.specs.Prelude.{slice_get, decimal, codes}
+use Rattle.std.proofs.Common.{◌≡◌, ℕ, ◌^◌, ◌≤◌, ◌<◌, true, List, ◌∷◌, Some, refl, ap, ◌∙◌, arith}
+use Rattle.std.specs.Prelude.{slice_get, decimal}
 use Rattle.std.specs.Fmt.{signed_decimal}
 use Rattle.std.specs.Option.{option_map}
 use Rattle.rtl_word.specs.Words.{word_signed}
-use Rattle.rtl_word.specs.declared.Rel.{Rel}
 use Rattle.rtl_word.specs.declared.Rel.TheVariants.{Eq, Ne, Lt, Le, Gt, Ge, Ltu, Leu, Gtu, Geu}
 use Rattle.rtl_tree.specs.declared.cells.Lab.TheVariants.{Block, Function}
 use Rattle.rtl_tree.specs.declared.expressions.Width.{Width}
@@ -18,10 +17,10 @@ use Rattle.rtl_spelling.specs.declared.signs.Sign.TheVariants as sign
 use Rattle.rtl_spelling.specs.declared.senses.Bank.{Bank}
 use Rattle.rtl_spelling.specs.declared.senses.Bank.TheVariants.{Register, Temporary, Flag}
 use Rattle.rtl_spelling.specs.declared.senses.Sense.TheVariants as sense
-use Rattle.rtl_spelling.specs.Tokens.{Token, Word, Number, Mark}
+use Rattle.rtl_spelling.specs.Tokens.{Word, Number}
 use Rattle.rtl_spelling.specs.Spelling.{Context, IsContext, name_token, memory_word, unary_word, StandsBefore, operator_token}
 use Rattle.rtl_spelling.specs.Senses.{sense_of, number_sense, name_sense, function_sense, block_sense, cell_at, bank_size, bank_cell, place_among}
-use Rattle.rtl_spelling.specs.Reading.{same_sign, is_sign}
+use Rattle.rtl_spelling.specs.Reading.{same_sign}
 use Rattle.rtl_spelling.proofs.Numbers.{word_spelled_signed, number_below_decimal, place_among_at, place_among_none, contains_at}
 
 pub number_told : (c : Context) (n : ℕ) → IsContext c → n < 2 ^ c.width → sense_of c (Number (signed_decimal (word_signed c.width n))) ≡ sense.Number n

@@ -1,13 +1,12 @@
 -- What the automaton's way says of its runs.
-use Rattle.std.proofs.Common.{◌≡◌, ℕ, zero, suc, ◌+◌, ◌≤◌, ◌<◌, Bool, true, false, List, [], ◌∷◌, ◌++◌, length, Option, Some, None, Ok, Err, refl, sym, ap, subst, ◌∙◌, append_assoc, arith}
-use Rattle.std.specs.Prelude.{cond, nat_le}
+use Rattle.std.proofs.Common.{◌≡◌, ℕ, Bool, true, false, List, [], ◌∷◌, ◌++◌, length, Some, None, refl, sym, ap, subst, ◌∙◌, arith}
+use Rattle.std.specs.Prelude.{cond}
 use Rattle.std.specs.List.{AllByRecursion}
-use Rattle.std.proofs.lemmas.Bool.{leb-true}
 use Rattle.rtl_spelling.specs.Tokens.{Token}
 use Rattle.rtl_spelling.specs.Spelling.{Context, Placed, tokens_in}
-use Rattle.rtl_spelling.specs.Reading.{Read, Trouble, Wrong, Deep, gives, wrong, deep}
-use Rattle.rtl_spelling.proofs.Automaton.{Symbol, Stack, Step, step, stands, followed, follow}
-use Rattle.rtl_spelling.proofs.Runs.{Run, run_append}
+use Rattle.rtl_spelling.specs.Reading.{Read, gives, wrong, deep}
+use Rattle.rtl_spelling.proofs.Automaton.{Symbol, Stack, Step, step, stands, some_step, new_of, depth_of, followed, follow}
+use Rattle.rtl_spelling.proofs.Runs.{Run}
 
 abbrev pub Within : ℕ → List Placed → Type 0
 Within most ps = AllByRecursion (λ p. stands most p.depth ≡ true) ps
@@ -63,17 +62,6 @@ token_head p q ps qs e = (cc, cc)
 
 placed_same : (p q : Placed) → p.token ≡ q.token → p.depth ≡ q.depth → p ≡ q
 placed_same p q e f = λ i. record { token = e i; depth = f i }
-
-abbrev depth_of : Step → ℕ
-depth_of (Some y) = y.0
-depth_of None = 0
-
-abbrev new_of : Step → Stack
-new_of (Some y) = y.1
-new_of None = []
-
-abbrev some_step : ℕ → Stack → Step
-some_step d s = Some (d, s)
 
 step_same : (a b : ℕ) (s r : Stack) → some_step a s ≡ some_step b r → (a ≡ b) × (s ≡ r)
 step_same a b s r e = (ap depth_of e, ap new_of e)

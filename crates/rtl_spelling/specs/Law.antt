@@ -7,7 +7,7 @@ use Rattle.rtl_spelling.specs.Tokens.{Token, Mark, Lexes, Stuck}
 use Rattle.rtl_spelling.specs.Spelling.{Context, IsContext, Said, IsSpelled}
 use Rattle.rtl_spelling.specs.Faults.{FormFault, DepthFault}
 use Rattle.rtl_spelling.specs.Printing.{text_of, IsPrintable, IsTyped}
-use Rattle.rtl_spelling.specs.Contract.{said_of, SpellsText, TextSays}
+use Rattle.rtl_spelling.specs.Contract.{SpellsText, TextSays}
 use Rattle.rtl_spelling.specs.Reading.{Trouble, Wrong, Deep, reading}
 
 abbrev pub ends : List Token → ℕ
@@ -45,6 +45,16 @@ Answers c ts (Err (Deep n)) = DepthFaultLeaves c ts n
 
 abbrev pub ReadingAnswers : Type 0
 ReadingAnswers = (c : Context) (ts : List Token) → IsContext c → IsEnded ts → Answers c ts (reading c ts)
+
+-- a fault has one place and is of one kind, and a spelling has none
+pub record OneFault (c : Context) (ts : List Token) : Type 0 where
+  pub form : (us vs : List Token) → FormFault c ts us → FormFault c ts vs → us ≡ vs
+  pub depth : (us vs : List Token) → DepthFault c ts us → DepthFault c ts vs → us ≡ vs
+  pub apart : (us vs : List Token) → FormFault c ts us → DepthFault c ts vs → ⊥
+  pub none : (ms : List Said) → IsSpelled c ms ts → ((us : List Token) → FormFault c ts us → ⊥) × ((us : List Token) → DepthFault c ts us → ⊥)
+
+abbrev pub AtMostOneFault : Type 0
+AtMostOneFault = (c : Context) (ts : List Token) → IsContext c → OneFault c ts
 
 -- what is spelled is read
 abbrev pub SpelledIsRead : Type 0

@@ -1,6 +1,6 @@
 //! Laws, each the contract of an empty function.
 
-ghost use Rattle.rtl_spelling.specs.Law.{AtMostOneLexed, AtMostOneSpelled, LexedIsEnded, ReadingAnswers, SpelledIsRead, StuckIsNotLexed};
+ghost use Rattle.rtl_spelling.specs.Law.{AtMostOneFault, AtMostOneLexed, AtMostOneSpelled, LexedIsEnded, PrintedIsOnly, PrintedSays, ReadingAnswers, SpelledIsRead, StuckIsNotLexed};
 
 /// What is read of the tokens of a text is what they spell; where nothing is read, the first fault lies where the reading says.
 pub fn reading_answers()
@@ -10,6 +10,11 @@ pub fn reading_answers()
 /// What is spelled is read, so tokens spell at most one transfer.
 pub fn spelled_is_read()
     ensures { SpelledIsRead }
+{}
+
+/// Tokens have one fault, at one place, or none where they spell a transfer.
+pub fn at_most_one_fault()
+    ensures { AtMostOneFault }
 {}
 
 /// A text falls into at most one list of tokens.
@@ -30,4 +35,14 @@ pub fn lexed_is_ended()
 /// A text spells at most one transfer.
 pub fn at_most_one_spelled()
     ensures { AtMostOneSpelled }
+{}
+
+/// What is printed of a well-formed transfer spells it, and so reads back.
+pub fn printed_says()
+    ensures { PrintedSays }
+{}
+
+/// Without holes a well-formed transfer has no other spelling than what is printed of it.
+pub fn printed_is_only()
+    ensures { PrintedIsOnly }
 {}

@@ -1,11 +1,11 @@
 -- Assignments read one by one.
-use Rattle.std.proofs.Common.{◌≡◌, ℕ, suc, zero, Bool, true, false, cond, List, [], ◌∷◌, ◌++◌, length, refl, sym, ap, subst, ◌∙◌, append_assoc, Option, Some, None, Ok, Err}
+use Rattle.std.proofs.Common.{◌≡◌, ℕ, suc, Bool, true, false, cond, List, [], ◌∷◌, refl, sym, ap, ◌∙◌, append_assoc, Option, Some, None, Ok, Err}
 use Rattle.std.specs.Option.{option_map}
 use Rattle.rtl_tree.specs.Moves.{Move}
 use Rattle.rtl_spelling.specs.declared.signs.Sign.TheVariants as sign
 use Rattle.rtl_spelling.specs.Tokens.{Token}
 use Rattle.rtl_spelling.specs.Spelling.{Context, Said}
-use Rattle.rtl_spelling.specs.Reading.{Read, Trouble, Wrong, ◌>>=◌, gives, head_of, rest_of, is_sign, expect, move, moves}
+use Rattle.rtl_spelling.specs.Reading.{Read, ◌>>=◌, gives, head_of, rest_of, is_sign, expect, move, moves}
 use Rattle.rtl_text.specs.Collected.{move_of, joined, pushed, collected, collects, item}
 use Rattle.rtl_text.specs.Gives.{Fails}
 use Rattle.rtl_text.specs.declared.trouble.Trouble.{Trouble as Stop}
@@ -46,9 +46,9 @@ behind_move c k m us false = behind_semicolon c k m (expect sign.Semicolon us)
 
 from_move : (c : Context) (k : ℕ) (read : Read Said)
     → (read >>= λ m us. cond (is_sign sign.End (head_of us)) (gives (m ∷ []) (rest_of us))
-        (expect sign.Semicolon us >>= λ _ us. expect sign.Space us >>= λ _ us. moves c 31 k us >>= λ ms us. gives (m ∷ ms) us))
+    (expect sign.Semicolon us >>= λ _ us. expect sign.Space us >>= λ _ us. moves c 31 k us >>= λ ms us. gives (m ∷ ms) us))
     ≡ ((read >>= λ m us. cond (is_sign sign.End (head_of us)) (gives (m, true) (rest_of us))
-        (expect sign.Semicolon us >>= λ _ us. expect sign.Space us >>= λ _ us. gives (m, false) us)) >>= others c k)
+    (expect sign.Semicolon us >>= λ _ us. expect sign.Space us >>= λ _ us. gives (m, false) us)) >>= others c k)
 from_move c k (Ok x) = behind_move c k x.0 x.1 (is_sign sign.End (head_of x.1))
 from_move c k (Err e) = refl
 

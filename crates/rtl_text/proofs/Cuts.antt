@@ -1,5 +1,5 @@
 -- Cutting a text into tokens.
-use Rattle.std.proofs.Common.{◌≡◌, ℕ, ◌+◌, ◌<◌, ◌≤◌, List, [], ◌∷◌, ◌++◌, length, drop, refl, sym, ◌-◌, length-drop, ap, subst, ◌∙◌, arith, append_assoc}
+use Rattle.std.proofs.Common.{◌≡◌, ℕ, ◌+◌, ◌<◌, ◌≤◌, List, [], ◌∷◌, ◌++◌, length, drop, sym, ◌-◌, length-drop, ap, subst, ◌∙◌, arith, append_assoc}
 use Rattle.rtl_spelling.specs.declared.signs.Sign.TheVariants as sign
 use Rattle.rtl_spelling.specs.Tokens.{Token, Mark, spelling, BeginsNoToken, Lexes, at_end, one_token, Stuck, here, after}
 use Rattle.rtl_text.specs.Length.{LongestToken}

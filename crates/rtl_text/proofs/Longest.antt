@@ -1,15 +1,14 @@
 -- The longest token with which a text begins.
-use Rattle.std.proofs.Common.{◌≡◌, ℕ, ◌+◌, ◌<◌, ◌≤◌, suc, zero, Bool, true, false, eqb, List, [], ◌∷◌, ◌++◌, length, get_or, take, drop, refl, sym, ap, ◌∙◌, arith, inl, inr}
-use Rattle.std.proofs.lemmas.Bool.{cases_Bool, and_parts, ne_eqb, eqb-true, or_left, or_right, or_parts}
+use Rattle.std.proofs.Common.{◌≡◌, ℕ, ◌+◌, ◌<◌, ◌≤◌, suc, zero, Bool, true, false, eqb, List, [], ◌∷◌, ◌++◌, length, take, drop, refl, sym, ap, ◌∙◌, arith, inl, inr}
+use Rattle.std.proofs.lemmas.Bool.{cases_Bool, and_parts, ne_eqb, eqb-true}
 use Rattle.std.proofs.lemmas.Bool.Decides.{nat_tests}
 use Rattle.std.proofs.lemmas.List.{length-take-le, take-append-drop}
-use Rattle.std.proofs.lemmas.List.Elements.{All-nil, All-cons, All-head, All-tail}
-use Rattle.std.proofs.lemmas.List.Sums.{prefix_len-le-length}
+use Rattle.std.proofs.lemmas.List.Elements.{All-nil, All-cons}
 use Rattle.std.specs.Char.{is_ascii_digit}
 use Rattle.std.specs.List.{AllPass, prefix_len}
-use Rattle.std.specs.Prelude.{max, codes, IsTrue, ◌⊎◌}
+use Rattle.std.specs.Prelude.{codes}
 use Rattle.asm_token.specs.Tokens.{IsName, is_name_start, is_name_byte}
-use Rattle.asm_token.proofs.Bytes.{start_is_name, digit_no_start}
+use Rattle.asm_token.proofs.Bytes.{start_is_name}
 use Rattle.asm_token.proofs.Lengths.{prefix_at_least}
 use Rattle.rtl_spelling.specs.declared.signs.Sign.{Sign}
 use Rattle.rtl_spelling.specs.declared.signs.Sign.TheVariants as sign

@@ -1,20 +1,18 @@
 -- What is answered of a text.
-use Rattle.std.proofs.Common.{◌≡◌, ℕ, ◌-◌, ◌<◌, List, [], ◌∷◌, ◌++◌, Option, Some, None, Ok, Err, length, take, refl, sym, ap, subst, ◌∙◌, arith, length-append, ◌+◌}
+use Rattle.std.proofs.Common.{◌≡◌, ℕ, ◌-◌, List, [], ◌∷◌, Option, Some, None, Ok, Err, length, take, refl, sym, ap, subst, ◌∙◌, arith, length-append, ◌+◌}
 use Rattle.std.proofs.lemmas.List.{take_at, take-map, length-map}
-use Rattle.std.specs.Option.{option_map}
 use Rattle.std.specs.Prelude.{Result, IfOk, IfErr}
 use Rattle.rtl_tree.specs.Moves.{Goal, Move}
 use Rattle.rtl_tree.specs.WellFormed.{IsWellFormed}
-use Rattle.rtl_spelling.specs.Tokens.{Token, Lexes, Stuck, spelled}
-use Rattle.rtl_spelling.specs.Spelling.{Context, IsContext, Said, IsSpelled}
-use Rattle.rtl_spelling.specs.Faults.{FormFault, DepthFault}
-use Rattle.rtl_spelling.specs.Contract.{said_of, SpellsText, TextSays, SaysIllFormed, BadFormOf, TooDeepOf}
-use Rattle.rtl_spelling.specs.Law.{Answers, Leaves, FormFaultLeaves, DepthFaultLeaves, IsEnded}
+use Rattle.rtl_spelling.specs.Tokens.{Token, Lexes, spelled}
+use Rattle.rtl_spelling.specs.Spelling.{Context, IsContext, Said}
+use Rattle.rtl_spelling.specs.Contract.{said_of, SpellsText}
+use Rattle.rtl_spelling.specs.Law.{Answers, Leaves, FormFaultLeaves, DepthFaultLeaves}
 use Rattle.rtl_spelling.specs.Reading.{Trouble, Wrong, Deep, reading}
 use Rattle.rtl_spelling.proofs.Lexed.{at_most_one_lexed, at_most_one_spelled, lexed_is_ended, lexed_spelled, stuck_unlexed}
 use Rattle.rtl_spelling.proofs.Answered.{reading_answers, spelled_is_read}
-use Rattle.rtl_text.specs.Collected.{move_of, joined, collected}
-use Rattle.rtl_text.specs.Answering.{gathered, Refuses, Tells, Outcome, fault_at}
+use Rattle.rtl_text.specs.Collected.{collected}
+use Rattle.rtl_text.specs.Answering.{gathered, Outcome, fault_at}
 use Rattle.rtl_text.specs.Refusals.{RefusesTokens}
 use Rattle.rtl_text.specs.Gives.{Fails}
 use Rattle.rtl_text.specs.Seen.{token_of, tokens_of}

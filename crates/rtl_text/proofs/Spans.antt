@@ -1,5 +1,5 @@
 -- How many bytes some tokens have.
-use Rattle.std.proofs.Common.{◌≡◌, ℕ, suc, zero, ◌+◌, ◌<◌, ◌≤◌, List, [], ◌∷◌, ◌++◌, length, get_or, take, arith, length-append}
+use Rattle.std.proofs.Common.{◌≡◌, ℕ, suc, zero, ◌+◌, ◌<◌, ◌≤◌, List, [], ◌∷◌, length, get_or, take, arith, length-append}
 use Rattle.rtl_spelling.specs.Tokens.{spelled, spelling}
 use Rattle.rtl_text.specs.Seen.{token_of, tokens_of}
 use Rattle.rtl_text.specs.declared.token.Token.{Token as Borrowed}

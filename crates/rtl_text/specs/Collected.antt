@@ -1,8 +1,7 @@
 -- The assignments of a transfer, where each place can be one.
 use Rattle.std.specs.Prelude.{Bool, true, false, if◌then◌else◌, List, [], ◌∷◌, ◌++◌, Option, Some, None}
 use Rattle.std.specs.Option.{option_map}
-use Rattle.rtl_tree.specs.Trees.{Tree}
-use Rattle.rtl_tree.specs.Moves.{Goal, Move}
+use Rattle.rtl_tree.specs.Moves.{Move}
 use Rattle.rtl_spelling.specs.Tokens.{Token}
 use Rattle.rtl_spelling.specs.declared.signs.Sign.TheVariants as sign
 use Rattle.rtl_spelling.specs.Spelling.{Context, Said}

@@ -63,7 +63,12 @@ fn fault(tokens: &[Token<'_>], trouble: Trouble) -> TextFault
 }
 
 // What the tokens of a text say.
-fn answer(alloc: Global, c: &Context<'_>, text: &[u8], tokens: &[Token<'_>]) -> Result<Effects, TextFault>
+fn answer(
+    alloc: Global,
+    c: &Context<'_>,
+    text: &[u8],
+    tokens: &[Token<'_>],
+) -> Result<Effects, TextFault>
     requires context { IsContext (context_of c.now) }
     requires lexes { Lexes text.now (tokens_of tokens.now) }
     ensures { Outcome (context_of c.now) text.now result }
@@ -87,11 +92,7 @@ fn read(alloc: Global, c: &Context<'_>, text: &[u8]) -> Result<Effects, TextFaul
 ///
 /// Where the text spells none, the fault is the first of `TextFault::BadToken`, the lesser place of `TextFault::BadForm` and
 /// `TextFault::TooDeep`, of which the former goes first, and `TextFault::IllFormed`.
-pub fn read_transfer<W: Word>(
-    alloc: Global,
-    text: &[u8],
-    n: &Names,
-) -> Result<Effects, TextFault>
+pub fn read_transfer<W: Word>(alloc: Global, text: &[u8], n: &Names) -> Result<Effects, TextFault>
     requires apart { AreApart n.now.objects n.now.functions }
     ensures found { IfOk result (λ e. TextSays (reading_context W.BITS n.now []) text.now e) }
     ensures printable { IfOk result (λ e. IsPrintable (printing_context W.BITS n.now) e) }

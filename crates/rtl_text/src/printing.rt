@@ -18,7 +18,9 @@ use crate::number::signed;
 use crate::token::Token;
 use itoa::Buffer;
 use rtl_spelling::Sign;
-use rtl_tree::{Assign, BinOp, Cell, Effects, Expr, Lab, NameList, Names, NoMemory, Place, UnOp, Width};
+use rtl_tree::{
+    Assign, BinOp, Cell, Effects, Expr, Lab, NameList, Names, NoMemory, Place, UnOp, Width,
+};
 use rtl_word::Word;
 use std::alloc::{AllocError, Global};
 

@@ -4,7 +4,7 @@ ghost use Rattle.std.specs.Prelude.{◌≡◌, Contains, IfOk, List, ℕ};
 ghost use Rattle.rtl_spelling.specs.Spelling.{AreApart};
 
 use crate::{OpenHole, TextFault, print_transfer, read_holed, read_transfer};
-use rtl_tree::{Cell, Expr, Name, NameList, Names, NoMemory, is_name};
+use rtl_tree::{Cell, Effects, Expr, Name, NameList, Names, NoMemory, Place, Width, is_name};
 use rtl_word::{W16, W32, Word};
 use std::alloc::Global;
 use std::test::Fail;
@@ -180,13 +180,25 @@ fn what_was_read_is_printed(rt: HostRuntime) -> Result<(), Fail> {
 #[test]
 fn numbers_have_their_words(rt: HostRuntime) -> Result<(), Fail> {
     let alloc = rt.alloc();
-    assert_eq!(rt; fault::<W16>(alloc, b"r[1] = 32768")?, Some(TextFault::BadForm(7)));
-    assert_eq!(rt; fault::<W16>(alloc, b"r[1] = -32769")?, Some(TextFault::BadForm(7)));
+    assert_eq!(rt;
+        fault::<W16>(alloc, b"r[1] = 32768")?,
+        Some(TextFault::BadForm(7))
+    );
+    assert_eq!(rt;
+        fault::<W16>(alloc, b"r[1] = -32769")?,
+        Some(TextFault::BadForm(7))
+    );
     assert_eq!(rt; fault::<W32>(alloc, b"r[1] = -32769")?, None);
     assert_eq!(rt; fault::<W32>(alloc, b"r[1] = 2147483647")?, None);
-    assert_eq!(rt; fault::<W32>(alloc, b"r[1] = 2147483648")?, Some(TextFault::BadForm(7)));
+    assert_eq!(rt;
+        fault::<W32>(alloc, b"r[1] = 2147483648")?,
+        Some(TextFault::BadForm(7))
+    );
     assert_eq!(rt; fault::<W32>(alloc, b"r[1] = -2147483648")?, None);
-    assert_eq!(rt; fault::<W32>(alloc, b"r[1] = -2147483649")?, Some(TextFault::BadForm(7)));
+    assert_eq!(rt;
+        fault::<W32>(alloc, b"r[1] = -2147483649")?,
+        Some(TextFault::BadForm(7))
+    );
     assert_eq!(rt;
         fault::<W32>(alloc, b"r[1] = 99999999999999999999999")?,
         Some(TextFault::BadForm(7))
@@ -200,13 +212,22 @@ fn depth_33_is_refused(rt: HostRuntime) -> Result<(), Fail> {
     let deepest = nested(alloc, b"r[1] = ", 31, b"1", b"")?;
     assert_eq!(rt; fault::<W16>(alloc, deepest.as_slice())?, None);
     let deeper = nested(alloc, b"r[1] = ", 32, b"1", b"")?;
-    assert_eq!(rt; fault::<W16>(alloc, deeper.as_slice())?, Some(TextFault::TooDeep(167)));
+    assert_eq!(rt;
+        fault::<W16>(alloc, deeper.as_slice())?,
+        Some(TextFault::TooDeep(167))
+    );
     let address = nested(alloc, b"M[", 30, b"1", b"] = 0")?;
     assert_eq!(rt; fault::<W16>(alloc, address.as_slice())?, None);
     let address = nested(alloc, b"M[", 31, b"1", b"] = 0")?;
-    assert_eq!(rt; fault::<W16>(alloc, address.as_slice())?, Some(TextFault::TooDeep(157)));
+    assert_eq!(rt;
+        fault::<W16>(alloc, address.as_slice())?,
+        Some(TextFault::TooDeep(157))
+    );
     let both = nested(alloc, b"r[1] = ", 32, b"lost", b"")?;
-    assert_eq!(rt; fault::<W16>(alloc, both.as_slice())?, Some(TextFault::BadForm(167)));
+    assert_eq!(rt;
+        fault::<W16>(alloc, both.as_slice())?,
+        Some(TextFault::BadForm(167))
+    );
     Ok(())
 }
 
@@ -224,5 +245,28 @@ fn holes_are_filled(rt: HostRuntime) -> Result<(), Fail> {
     for (text, expected) in table {
         assert_eq!(rt; holed_fault(rt.alloc(), text)?, expected);
     }
+    Ok(())
+}
+
+// Whether this is the one assignment of 5 to the word at register 3.
+fn stores_five(effects: &Effects) -> bool {
+    match effects.list.as_slice() {
+        [a] => {
+            matches!(&a.to, Place::Mem(Width::Full, Expr::Cell(Cell::Hard(3))))
+                && matches!(&a.value, Expr::Num(5))
+        }
+        _ => false,
+    }
+}
+
+#[test]
+fn a_hole_becomes_its_leaf(rt: HostRuntime) -> Result<(), Fail> {
+    let alloc = rt.alloc();
+    let names = names(alloc)?;
+    let holes = holes(alloc)?;
+    let Ok(effects) = read_holed::<W32>(alloc, b"M[<d>] = <k>", &names, &holes) else {
+        panic!(rt; "a text with holes was refused");
+    };
+    assert!(rt; stores_five(&effects));
     Ok(())
 }

@@ -1,4 +1,4 @@
-use Rattle.std.proofs.Common.{arith, ◌<◌, ◌≡◌, length}
+use Rattle.std.proofs.Common.{arith}
 use Rattle.rtl_text.specs.Seen.{tokens_of}
 use Rattle.rtl_text.proofs.Cuts.{stuck_here, past_token, whole}
 use Rattle.rtl_text.proofs.lexing.lex.Goals as goal

@@ -10,5 +10,5 @@ loop-digit-preserved c =
     let n : ℕ = c.loop-digit.digit-index in
     let v : ℕ = c.loop-digit.value in
     let step : min (v * 10 + (get_or ds n 0 - 48)) (2 ^ 33) ≡ min (digits_value 10 (take (n + 1) ds)) (2 ^ 33) =
-        one_digit ds n v c.loop-digit.invariant c.loop-digit-test.true (c.requires n 0 c.loop-digit-test.true) in
+    one_digit ds n v c.loop-digit.invariant c.loop-digit-test.true (c.requires n 0 c.loop-digit-test.true) in
     omega arith

@@ -1,4 +1,4 @@
-use Rattle.std.proofs.Common.{◌≡◌, ◌-◌, length, take}
+use Rattle.std.proofs.Common.{◌≡◌, length, take}
 use Rattle.rtl_spelling.specs.Tokens.{spelled}
 use Rattle.rtl_text.specs.Seen.{tokens_of}
 use Rattle.rtl_text.proofs.places.place.Given as goal

@@ -1,6 +1,6 @@
-use Rattle.std.proofs.Common.{sym, arith, ◌≡◌}
-use Rattle.rtl_text.specs.Length.{word_length, number_length, token_length}
-use Rattle.rtl_text.proofs.Longest.{word_found, number_found, mark_found, no_token}
+use Rattle.std.proofs.Common.{arith, ◌≡◌}
+use Rattle.rtl_text.specs.Length.{word_length, number_length}
+use Rattle.rtl_text.proofs.Longest.{word_found, number_found, mark_found}
 use Rattle.rtl_text.proofs.token.token_at.Goals as goal
 
 pub returns-then-length-gt0-clause-found : goal.returns-then-length-gt0-clause-found

@@ -1,0 +1,4 @@
+pub mod Spelled
+pub mod Printable
+pub mod Fitting
+pub mod Reading

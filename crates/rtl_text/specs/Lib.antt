@@ -1,0 +1,8 @@
+pub mod Length
+pub mod Seen
+pub mod Refusals
+pub mod Appending
+pub mod Gives
+pub mod Unary
+pub mod Collected
+pub mod Answering

@@ -1,0 +1,96 @@
+//! The bytes of marks and words.
+
+ghost use Rattle.std.specs.Prelude.{◌≡◌};
+ghost use Rattle.rtl_spelling.specs.Spelling;
+ghost use Rattle.rtl_spelling.specs.Tokens;
+ghost use Rattle.rtl_text.specs.Seen.{token_of};
+
+use crate::token::Token;
+use rtl_spelling::Sign;
+use rtl_tree::{BinOp, UnOp, Width};
+use rtl_word::Rel;
+
+pub(crate) fn sign_bytes(sign: Sign) -> &'static [u8]
+    ensures { result.now ≡ Tokens.sign_bytes sign }
+{
+    match sign {
+        Sign::Space => b" ",
+        Sign::LeftBracket => b"[",
+        Sign::RightBracket => b"]",
+        Sign::LeftParen => b"(",
+        Sign::RightParen => b")",
+        Sign::Semicolon => b";",
+        Sign::Equals => b"=",
+        Sign::Plus => b"+",
+        Sign::Minus => b"-",
+        Sign::Star => b"*",
+        Sign::Ampersand => b"&",
+        Sign::Bar => b"|",
+        Sign::Caret => b"^",
+        Sign::Question => b"?",
+        Sign::Less => b"<",
+        Sign::Greater => b">",
+        Sign::Arrow => b"->",
+        Sign::End => b"",
+    }
+}
+
+pub(crate) fn relation_word(relation: Rel) -> &'static [u8]
+    ensures { result.now ≡ Spelling.relation_word relation }
+{
+    match relation {
+        Rel::Eq => b"eq",
+        Rel::Ne => b"ne",
+        Rel::Lt => b"lt",
+        Rel::Le => b"le",
+        Rel::Gt => b"gt",
+        Rel::Ge => b"ge",
+        Rel::Ltu => b"ltu",
+        Rel::Leu => b"leu",
+        Rel::Gtu => b"gtu",
+        Rel::Geu => b"geu",
+    }
+}
+
+pub(crate) fn unary_word(operator: UnOp) -> &'static [u8]
+    ensures { result.now ≡ Spelling.unary_word operator }
+{
+    match operator {
+        UnOp::Neg => b"neg",
+        UnOp::Not => b"not",
+        UnOp::Sxb => b"sxb",
+        UnOp::Test(relation) => relation_word(relation),
+    }
+}
+
+pub(crate) fn memory_word(width: Width) -> &'static [u8]
+    ensures { result.now ≡ Spelling.memory_word width }
+{
+    match width {
+        Width::Full => b"M",
+        Width::Byte => b"B",
+    }
+}
+
+pub(crate) fn operator_token(operator: BinOp) -> Token<'static>
+    ensures { token_of result ≡ Spelling.operator_token operator }
+{
+    match operator {
+        BinOp::Add => Token::Mark(Sign::Plus),
+        BinOp::Sub => Token::Mark(Sign::Minus),
+        BinOp::Mul => Token::Mark(Sign::Star),
+        BinOp::Div => Token::Word(b"div"),
+        BinOp::Divu => Token::Word(b"divu"),
+        BinOp::Rem => Token::Word(b"rem"),
+        BinOp::Remu => Token::Word(b"remu"),
+        BinOp::And => Token::Mark(Sign::Ampersand),
+        BinOp::Or => Token::Mark(Sign::Bar),
+        BinOp::Xor => Token::Mark(Sign::Caret),
+        BinOp::Shl => Token::Word(b"shl"),
+        BinOp::Shr => Token::Word(b"shr"),
+        BinOp::Shru => Token::Word(b"shru"),
+        BinOp::Cmp(relation) => Token::Word(relation_word(relation)),
+        BinOp::Pair => Token::Mark(Sign::Question),
+        BinOp::When => Token::Mark(Sign::Arrow),
+    }
+}

@@ -1,0 +1,12 @@
+//! What a text is read by.
+
+use rtl_spelling::OpenHole;
+use rtl_tree::Names;
+
+/// The bits of a word, the names, and the holes that may be filled.
+#[derive(Clone, Copy, Debug)]
+pub(crate) struct Context<'a> {
+    pub bits: u32,
+    pub names: &'a Names,
+    pub holes: &'a [OpenHole],
+}

@@ -1,0 +1,51 @@
+//! Why a text was refused.
+
+use rtl_tree::NoMemory;
+use std::alloc::{AllocError, AllocFailed};
+
+/// Why a text spells no well-formed transfer. Each number is a place in the text, counted in bytes from 0.
+#[derive(Clone, Copy, Debug, PartialEq, Eq)]
+pub enum TextFault {
+    NoMemory,
+    /// The least byte that begins no token.
+    BadToken(usize),
+    /// The first token that continues no transfer, or is a name that is unknown. The end of the text counts as a token.
+    BadForm(usize),
+    /// The first token of a tree at depth 33.
+    TooDeep(usize),
+    /// What was read isn't well formed.
+    IllFormed,
+}
+
+impl From<NoMemory> for TextFault {
+    ghost use Rattle.std.specs.Prelude.{◌≡◌};
+    ghost use Rattle.rtl_text.specs.declared.fault.TextFault.TheVariants.{NoMemory};
+
+    ghost from_gives = { λ _ f. f ≡ NoMemory };
+
+    fn from(_: NoMemory) -> TextFault {
+        TextFault::NoMemory
+    }
+}
+
+impl From<AllocError> for TextFault {
+    ghost use Rattle.std.specs.Prelude.{◌≡◌};
+    ghost use Rattle.rtl_text.specs.declared.fault.TextFault.TheVariants.{NoMemory};
+
+    ghost from_gives = { λ _ f. f ≡ NoMemory };
+
+    fn from(_: AllocError) -> TextFault {
+        TextFault::NoMemory
+    }
+}
+
+impl<T: Drop> From<AllocFailed<T>> for TextFault {
+    ghost use Rattle.std.specs.Prelude.{◌≡◌};
+    ghost use Rattle.rtl_text.specs.declared.fault.TextFault.TheVariants.{NoMemory};
+
+    ghost from_gives = { λ _ f. f ≡ NoMemory };
+
+    fn from(_: AllocFailed<T>) -> TextFault {
+        TextFault::NoMemory
+    }
+}

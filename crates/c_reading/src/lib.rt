@@ -1,0 +1,2 @@
+//! The reading of the tokens of a C source, by one token of lookahead.
+#![tactic(auto)]

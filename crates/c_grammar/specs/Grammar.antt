@@ -29,7 +29,7 @@ use Rattle.c_grammar.specs.declared.sign.Sign.{Sign}
 use Rattle.c_grammar.specs.declared.sign.Sign.TheVariants as sign
 use Rattle.c_grammar.specs.Words.{Word, a_name, a_number, a_character, a_sign}
 use Rattle.c_grammar.specs.Operators.{precedence, binary_sign, assign_sign, unary_sign, step_sign, type_signs}
-use Rattle.c_grammar.specs.Phrases.{Part, the, mark, sub, open_, only, Said, node, phrase, the_sign, operator, name, row, commas, some}
+use Rattle.c_grammar.specs.Phrases.{Part, the, mark, sub, open_, expr, item, piece, only, Said, node, phrase, the_sign, operator, name, each, commas, some}
 
 -- words of a type in their order
 abbrev pub signs : List Sign → List Part
@@ -39,12 +39,9 @@ signs (s ∷ ss) = the_sign s ∷ signs ss
 abbrev pub type : TypeWords → List Part
 type t = signs (type_signs t)
 
--- an assignment expression is an open phrase; a list of them with commas is none, and its commas count
+-- an assignment expression is an open phrase
 abbrev pub assign : Said → Part
 assign a = open_ 1 a
-
-abbrev pub expr : Said → Part
-expr a = if nat_le 1 a.level then open_ 1 a else sub 0 a
 
 -- Levels of expressions: 0 expr, 1 assign, 2 conditional, 3 to 12 the binary operators, 13 cast, 14 unary, 15 postfix, 16 primary
 abbrev pub expression : Expr-F Said → Said
@@ -93,8 +90,8 @@ initialised initialiser.Absent = []
 initialised (initialiser.Value e) = the_sign sign.Assign ∷ assign (about e) ∷ []
 initialised (initialiser.List es last) = some es ∷ the_sign sign.Assign ∷ the_sign sign.LeftBrace ∷ (commas assign (map about es) ++ (last_comma last ++ the_sign sign.RightBrace ∷ []))
 
-abbrev pub item : Item → Said
-item i = node i.at 0 (name i.name ∷ (sized i.size ++ initialised i.initialiser))
+abbrev pub declarator : Item → Said
+declarator i = node i.at 0 (name i.name ∷ (sized i.size ++ initialised i.initialiser))
 
 abbrev pub returned : Return → List Part
 returned gives.Void = the_sign sign.Void ∷ []
@@ -110,14 +107,14 @@ parameter p = node p.at 0 (type p.words ++ maybe_name p.name)
 abbrev pub listed : Parameters → List Part
 listed parameters.Empty = []
 listed parameters.Void = the_sign sign.Void ∷ []
-listed (parameters.List ps) = some ps ∷ commas (sub 0) (map parameter ps)
+listed (parameters.List ps) = some ps ∷ commas piece (map parameter ps)
 
 -- name "(" parameters ")"
 abbrev pub called : List ℕ → Parameters → List Part → List Part
 called n ps more = name n ∷ the_sign sign.LeftParen ∷ (listed ps ++ the_sign sign.RightParen ∷ more)
 
 abbrev pub declared : Declaration → Said
-declared (declaration.Objects at t items) = node at 0 (type t ++ (some items ∷ commas (sub 0) (map item items) ++ the_sign sign.Semicolon ∷ []))
+declared (declaration.Objects at t items) = node at 0 (type t ++ (some items ∷ commas piece (map declarator items) ++ the_sign sign.Semicolon ∷ []))
 declared (declaration.Function at r n ps) = node at 0 (returned r ++ called n ps (the_sign sign.Semicolon ∷ []))
 
 -- ---- statements (C11 6.8)
@@ -126,12 +123,8 @@ declared (declaration.Function at r n ps) = node at 0 (returned r ++ called n ps
 abbrev pub statement_part : Said → Part
 statement_part a = open_ 1 a
 
-abbrev pub items_of : List Said → List Part
-items_of [] = []
-items_of (a ∷ more) = (if nat_le 1 a.level then open_ 1 a else sub 0 a) ∷ items_of more
-
 abbrev pub braces : List Said → List Part
-braces xs = the_sign sign.LeftBrace ∷ (items_of xs ++ the_sign sign.RightBrace ∷ [])
+braces xs = the_sign sign.LeftBrace ∷ (each item xs ++ the_sign sign.RightBrace ∷ [])
 
 -- a block is an open phrase
 abbrev pub block : List Said → Part
@@ -140,7 +133,7 @@ block xs = open_ 0 (phrase (braces xs))
 abbrev pub started : Start → List Part
 started start.Absent = the_sign sign.Semicolon ∷ []
 started (start.Value e) = value e ∷ the_sign sign.Semicolon ∷ []
-started (start.Declared d) = sub 0 (declared d) ∷ []
+started (start.Declared d) = piece (declared d) ∷ []
 
 -- "(" expression ")"
 abbrev pub condition : Expr → List Part → List Part
@@ -173,4 +166,4 @@ part (external.Declared d) = declared d
 part (external.Defined at r n ps body) = node at 0 (returned r ++ called n ps (block (map about_statement body) ∷ []))
 
 abbrev pub program : Syntax → Said
-program p = phrase (row 0 (map part p.parts) ++ the_sign sign.End ∷ [])
+program p = phrase (each piece (map part p.parts) ++ the_sign sign.End ∷ [])

@@ -1,0 +1,2 @@
+//! The parser of C (C11 6.5 to 6.9).
+#![tactic(auto)]

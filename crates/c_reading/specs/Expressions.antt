@@ -1,5 +1,5 @@
 -- The reading of expressions (C11 6.5), by one word of lookahead.
-use Rattle.std.specs.Prelude.{ℕ, zero, suc, Bool, true, false, if◌then◌else◌, nat_lt, List, [], ◌∷◌, ◌++◌, Option, Some, None, is_some, Ok, Err}
+use Rattle.std.specs.Prelude.{ℕ, zero, suc, Bool, if◌then◌else◌, nat_lt, List, [], ◌∷◌, ◌++◌, Option, Some, None, is_some}
 use Rattle.c_tree.specs.declared.token.At.{At}
 use Rattle.c_tree.specs.declared.syntax.Expr.{Expr}
 use Rattle.c_tree.specs.declared.syntax.Expr.TheVariants as tree
@@ -12,9 +12,9 @@ use Rattle.c_tree.specs.declared.syntax.StepOperator.TheVariants as step_operato
 use Rattle.c_tree.specs.declared.syntax.TypeWords.{TypeWords}
 use Rattle.c_grammar.specs.declared.sign.Sign.{Sign}
 use Rattle.c_grammar.specs.declared.sign.Sign.TheVariants as sign
-use Rattle.c_grammar.specs.Words.{Word, a_name, a_number, a_character, a_sign, Lexeme}
+use Rattle.c_grammar.specs.Words.{Word, a_name, a_number, a_character, a_sign}
 use Rattle.c_grammar.specs.Operators.{precedence}
-use Rattle.c_reading.specs.Parsers.{Parser, ◌>>=◌, ◌>>◌, and_then, pure, wrong, out, word_at, peek, place, deeper, phrase, eat, counted, expect, more}
+use Rattle.c_reading.specs.Parsers.{Parser, ◌>>=◌, ◌>>◌, pure, wrong, out, word_at, peek, place, deeper, phrase, eat, counted, expect, more}
 use Rattle.c_reading.specs.Trees.{place_of, is_unary, binary_of, assign_of, type_of, joined}
 
 -- What is to be read: a phrase, or what goes on from an expression that was read.

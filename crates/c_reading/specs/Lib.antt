@@ -1,3 +1,5 @@
 pub mod Parsers
 pub mod Trees
 pub mod Expressions
+pub mod Declarations
+pub mod Statements

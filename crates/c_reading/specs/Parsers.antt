@@ -1,11 +1,11 @@
 -- What every rule is read by: steps over the words that are left, and how deep the next one stands.
-use Rattle.std.specs.Prelude.{ℕ, zero, suc, ◌≡◌, Bool, true, false, if◌then◌else◌, List, [], ◌∷◌, length, Option, Some, None, Result, Ok, Err}
+use Rattle.std.specs.Prelude.{ℕ, suc, Bool, true, false, if◌then◌else◌, List, [], ◌∷◌, length, Option, Some, None, Result, Ok, Err}
 use denote.Enum.Bare.{sameb}
 use Rattle.c_tree.specs.declared.token.At.{At}
 use Rattle.c_grammar.specs.contracts.sign.Sign.{the_type}
 use Rattle.c_grammar.specs.declared.sign.Sign.{Sign}
 use Rattle.c_grammar.specs.declared.sign.Sign.TheVariants as sign
-use Rattle.c_grammar.specs.Words.{Word, a_name, a_number, a_character, a_sign, sign_of_word, Lexeme}
+use Rattle.c_grammar.specs.Words.{Word, a_name, a_sign, sign_of_word, Lexeme}
 
 -- Why nothing was read: a word that continues no program, or one that stands too deep, with how many words are left there; or the bound on calls ran out.
 pub data Trouble : Type 0 where

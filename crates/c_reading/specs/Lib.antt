@@ -3,3 +3,4 @@ pub mod Trees
 pub mod Expressions
 pub mod Declarations
 pub mod Statements
+pub mod Ahead

@@ -1,2 +1,6 @@
 //! The reading of the tokens of a C source, by one token of lookahead.
 #![tactic(auto)]
+
+mod fault;
+mod tokens;
+mod trees;

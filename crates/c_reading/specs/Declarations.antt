@@ -1,0 +1,169 @@
+-- The reading of declarations (C11 6.7), for those that the grammar has.
+use Rattle.std.specs.Prelude.{ℕ, zero, suc, Bool, true, false, if◌then◌else◌, List, [], ◌∷◌, ◌++◌}
+use Rattle.c_tree.specs.declared.token.At.{At}
+use Rattle.c_tree.specs.declared.syntax.Expr.{Expr}
+use Rattle.c_tree.specs.declared.syntax.TypeWords.{TypeWords}
+use Rattle.c_tree.specs.declared.syntax.Size.{Size}
+use Rattle.c_tree.specs.declared.syntax.Size.TheVariants as size_
+use Rattle.c_tree.specs.declared.syntax.Initialiser.{Initialiser}
+use Rattle.c_tree.specs.declared.syntax.Initialiser.TheVariants as initialiser_
+use Rattle.c_tree.specs.declared.syntax.Item.{Item}
+use Rattle.c_tree.specs.declared.syntax.Return.{Return}
+use Rattle.c_tree.specs.declared.syntax.Return.TheVariants as return_
+use Rattle.c_tree.specs.declared.syntax.Parameter.{Parameter}
+use Rattle.c_tree.specs.declared.syntax.Parameters.{Parameters}
+use Rattle.c_tree.specs.declared.syntax.Parameters.TheVariants as parameters_
+use Rattle.c_tree.specs.declared.syntax.Declaration.{Declaration}
+use Rattle.c_tree.specs.declared.syntax.Declaration.TheVariants as declaration_
+use Rattle.c_grammar.specs.declared.sign.Sign.{Sign}
+use Rattle.c_grammar.specs.declared.sign.Sign.TheVariants as sign
+use Rattle.c_reading.specs.Parsers.{Parser, ◌>>=◌, ◌>>◌, pure, out, peek, place, same, phrase, eat, expect, name, name_if_any, more}
+use Rattle.c_reading.specs.Expressions.{Reader, assign, conditional, type_words, read}
+
+-- objects with their semicolon, or a function up to its closing parenthesis
+pub data Opening : Type 0 where
+  declares : Declaration → Opening
+  heads : At → Return → List ℕ → Parameters → Opening
+
+module _ (T : ℕ → Bool) where
+  -- ---- declared names
+
+  module _ (R : Reader) where
+    abbrev pub size_by : Sign → Parser Size
+    size_by sign.RightBracket = eat T >> pure size_.Absent
+    size_by _ = do
+      e ← phrase (R conditional)
+      expect T sign.RightBracket
+      pure (size_.Given e)
+
+    -- behind the opening bracket
+    unfoldable pub given_size : Parser Size
+    given_size = peek >>= size_by
+
+    unfoldable pub size : Parser Size
+    size = do
+      s ← peek
+      if same s sign.LeftBracket then eat T >> given_size else pure size_.Scalar
+
+  -- the values in braces behind those that were read; a comma may stand behind the last one
+  unfoldable pub values : ℕ → List Expr → Parser Initialiser
+  values zero es = out
+  values (suc d) es = do
+    x ← read T d assign
+    goes_on ← more T sign.RightBrace
+    s ← peek
+    if goes_on then (if same s sign.RightBrace then eat T >> pure (initialiser_.List (es ++ x ∷ []) true) else values d (es ++ x ∷ [])) else pure (initialiser_.List (es ++ x ∷ []) false)
+
+  abbrev pub value_by : ℕ → Sign → Parser Initialiser
+  value_by d sign.LeftBrace = eat T >> values d []
+  value_by d _ = do
+    e ← read T d assign
+    pure (initialiser_.Value e)
+
+  -- behind the equals sign
+  unfoldable pub value : ℕ → Parser Initialiser
+  value d = peek >>= value_by d
+
+  unfoldable pub initialiser : ℕ → Parser Initialiser
+  initialiser d = do
+    s ← peek
+    if same s sign.Assign then eat T >> value d else pure initialiser_.Absent
+
+  -- behind the name of an object
+  unfoldable pub object : ℕ → At → List ℕ → Parser Item
+  object d at n = do
+    z ← size (read T d)
+    i ← initialiser d
+    pure (record { at = at; name = n; size = z; initialiser = i })
+
+  unfoldable pub item : ℕ → Parser Item
+  item d = do
+    at ← place
+    n ← name T
+    object d at n
+
+  -- the objects behind those that were read, up to the semicolon
+  unfoldable pub items : ℕ → List Item → Parser (List Item)
+  items zero is = out
+  items (suc d) is = do
+    i ← item d
+    goes_on ← more T sign.Semicolon
+    if goes_on then items d (is ++ i ∷ []) else pure (is ++ i ∷ [])
+
+  -- the objects, where the first one's name was read
+  unfoldable pub objects : ℕ → At → List ℕ → Parser (List Item)
+  objects d at n = do
+    i ← object d at n
+    goes_on ← more T sign.Semicolon
+    if goes_on then items d (i ∷ []) else pure (i ∷ [])
+
+  -- ---- parameters
+
+  unfoldable pub parameter : Parser Parameter
+  parameter = do
+    at ← place
+    w ← type_words T
+    n ← name_if_any T
+    pure (record { at = at; words = w; name = n })
+
+  -- the parameters behind those that were read, up to the closing parenthesis
+  unfoldable pub parameter_list : ℕ → List Parameter → Parser Parameters
+  parameter_list zero ps = out
+  parameter_list (suc d) ps = do
+    p ← parameter
+    goes_on ← more T sign.RightParen
+    if goes_on then parameter_list d (ps ++ p ∷ []) else pure (parameters_.List (ps ++ p ∷ []))
+
+  abbrev pub parameters_by : ℕ → Sign → Parser Parameters
+  parameters_by d sign.RightParen = eat T >> pure parameters_.Empty
+  parameters_by d sign.Void = do
+    eat T
+    expect T sign.RightParen
+    pure parameters_.Void
+  parameters_by d _ = parameter_list d []
+
+  -- behind the opening parenthesis
+  unfoldable pub parameters : ℕ → Parser Parameters
+  parameters d = peek >>= parameters_by d
+
+  -- ---- declarations
+
+  -- behind the name of a function
+  unfoldable pub heading : ℕ → At → Return → List ℕ → Parser Opening
+  heading d at r n = do
+    expect T sign.LeftParen
+    ps ← parameters d
+    pure (heads at r n ps)
+
+  abbrev pub typed_by : ℕ → At → TypeWords → At → List ℕ → Sign → Parser Opening
+  typed_by d at w p n sign.LeftParen = heading d at (return_.Value w) n
+  typed_by d at w p n _ = do
+    is ← objects d p n
+    pure (declares (declaration_.Objects at w is))
+
+  abbrev pub opening_by : ℕ → At → Sign → Parser Opening
+  opening_by d at sign.Void = do
+    eat T
+    n ← name T
+    heading d at return_.Void n
+  opening_by d at _ = do
+    w ← type_words T
+    p ← place
+    n ← name T
+    s ← peek
+    typed_by d at w p n s
+
+  unfoldable pub opening : ℕ → Parser Opening
+  opening d = do
+    at ← place
+    s ← peek
+    opening_by d at s
+
+  abbrev pub declared : Opening → Parser Declaration
+  declared (declares x) = pure x
+  declared (heads at r n ps) = do
+    expect T sign.Semicolon
+    pure (declaration_.Function at r n ps)
+
+  unfoldable pub declaration : ℕ → Parser Declaration
+  declaration d = opening d >>= declared

@@ -317,7 +317,7 @@ fill (arguments at n es) e = tree.Call at n (es ++ e ∷ [])
 -- ---- states
 
 abbrev pub on : Sign → Sign → Next → Next → Next
-on t s yes no = cond (same t s) yes no
+on t s then_ else_ = cond (same t s) then_ else_
 
 abbrev pub add : Statement → List Under → List Under
 add s (in_block at ss ∷ us) = in_block at (ss ++ s ∷ []) ∷ us
@@ -442,8 +442,8 @@ on_statement at w sign.Return us = goes (suc (inside us)) (either sign.Semicolon
 on_statement at w s us = on_operand at w [] (evaluate us)
 
 abbrev pub on_declaration : At → Sign → Option TypeWords → Home → Next → Next
-on_declaration at s (Some ty) h no = goes (home_nesting h) (declaring at (gives.Value ty) h)
-on_declaration at s None h no = on s sign.Void (goes (home_nesting h) (declaring at gives.Void h)) no
+on_declaration at s (Some ty) h other = goes (home_nesting h) (declaring at (gives.Value ty) h)
+on_declaration at s None h other = on s sign.Void (goes (home_nesting h) (declaring at gives.Void h)) other
 
 abbrev pub close_block : List Under → Next
 close_block (in_block at ss ∷ us) = goes (suc (suc (inside us))) (got (statement.Block at ss) us)

@@ -1,2 +1,5 @@
 mod Machine
 mod Trees
+mod Runs
+mod ExprRuns
+mod ExprComplete

@@ -1,0 +1,142 @@
+-- The machine over the words of an expression comes to have that expression.
+use Rattle.std.proofs.Common.{◌≡◌, ℕ, ℤ, zero, suc, ◌+◌, ◌<◌, ◌≤◌, Bool, true, false, cond, nat_le, ◌==◌, ◌&&◌, List, [], ◌∷◌, ◌++◌, length, map, Option, Some, None, Ok, Err, refl, sym, ap, subst, ◌∙◌, append_assoc, arith}
+use Rattle.std.proofs.lemmas.Bool.{and_parts, leb-true, le-leb, leb-false, and_from}
+use Rattle.std.proofs.lemmas.Bool.Decides.{nat_tests}
+use Rattle.std.proofs.lemmas.List.{append-nil}
+use Rattle.c_tree.specs.declared.token.At.{At}
+use Rattle.c_tree.specs.declared.syntax.TypeWords.{TypeWords}
+use Rattle.c_tree.specs.declared.syntax.BinaryOperator.{BinaryOperator}
+use Rattle.c_tree.specs.declared.syntax.BinaryOperator.TheVariants as binary_
+use Rattle.c_tree.specs.declared.syntax.AssignOperator.{AssignOperator}
+use Rattle.c_tree.specs.declared.syntax.AssignOperator.TheVariants as assign_
+use Rattle.c_tree.specs.declared.syntax.UnaryOperator.{UnaryOperator}
+use Rattle.c_tree.specs.declared.syntax.UnaryOperator.TheVariants as unary_
+use Rattle.c_tree.specs.declared.syntax.StepOperator.{StepOperator}
+use Rattle.c_tree.specs.declared.syntax.StepOperator.TheVariants as step_
+use Rattle.c_tree.specs.declared.syntax.Expr.{Expr}
+use Rattle.c_tree.specs.declared.syntax.Expr.TheVariants as tree
+use Rattle.c_tree.specs.declared.syntax.Expr.TheOpen.{Expr-F, Comma, Assign, Conditional, Binary, Cast, Unary, Before, After, Name, Element, Call, Number, Character, Paren}
+use Rattle.c_grammar.specs.declared.sign.Sign.{Sign}
+use Rattle.c_grammar.specs.declared.sign.Sign.TheVariants as sign
+use Rattle.c_grammar.specs.Words.{Word, a_name, a_number, a_character, a_sign, sign_of_word, Lexeme}
+use Rattle.c_grammar.specs.Operators.{precedence, binary_sign, assign_sign, unary_sign, step_sign}
+use Rattle.c_grammar.specs.Phrases.{Leaf, leaf, Said, Part, sub, stands, is_at, same_place, entry, behind, leaves_of, leaves_at, all_fit, commas, the_sign, operator}
+use Rattle.c_grammar.specs.Grammar.{about, expression, type, assign}
+use Rattle.c_grammar.specs.Spelling.{Stands}
+use Rattle.c_reading.specs.Parsers.{Wrong, Deep, same}
+use Rattle.c_reading.specs.Trees.{place_of, type_of, joined}
+use Rattle.c_parser.proofs.Machine as m
+use Rattle.c_parser.proofs.Machine.{State, operand, have, named, opened, casting, Frame, Use, step, run, Outcome, Next, goes, moved, hole, opens, entered, spot, first, Op, op_of, own, left, takes, push, fill, shut, offer, close_use}
+use Rattle.c_parser.proofs.Trees.{at_of, induction, said_comma, said_assign, said_conditional, said_binary, said_cast, said_unary, said_before, said_after, said_name, said_element, said_call, said_number, said_character, said_paren}
+use Rattle.c_parser.proofs.Runs.{lex, head_sign, starts, Met, met_as, took, skip, typed, Typing, type_leaves, type_of_leaves}
+
+use Rattle.c_parser.proofs.ExprRuns.{Left, Fit, fit, left_fit, binds, Follow, follow_up, follow_none, follow_comma, prec_low, prec_high, binary_op, assign_op, step_op, binary_binds, assign_binds, step_binds, under, pushed, shut_by, open_hole, open_first, entry_open, heads, no_type}
+
+abbrev a_sign_leaf : Sign → ℕ → Leaf
+a_sign_leaf s n = leaf (a_sign s) None n
+
+unary_step : (p : At) (o : UnaryOperator) (fs : List Frame) (u : Use) → m.prefix p (unary_sign o) fs u ≡ goes (first fs u) (operand (m.unary p o ∷ fs) u)
+unary_step p unary_.Plus fs u = refl
+unary_step p _ fs u = refl
+
+before_step : (p : At) (o : StepOperator) (fs : List Frame) (u : Use) → m.prefix p (step_sign o) fs u ≡ goes (first fs u) (operand (m.before p o ∷ fs) u)
+before_step p step_.Increment fs u = refl
+before_step p _ fs u = refl
+
+unnamed : (at : At) (n : List ℕ) (fs : List Frame) (u : Use) (s : Sign) → binds s ≤ 16 → m.on_name at n fs u s ≡ offer s (tree.Name at n) fs u
+unnamed at n fs u sign.LeftParen h = absurd (omega arith)
+unnamed at n fs u sign.LeftBracket h = absurd (omega arith)
+unnamed at n fs u s h = refl
+
+no_close : (s : Sign) → starts s ≡ true → same s sign.RightParen ≡ false
+no_close sign.RightParen h = absurd cc
+no_close s h = refl
+
+follow_13 : (r : List Leaf) → Follow 14 r → Follow 13 r
+follow_13 r f = record { top = f.top; cast = λ h. f.cast (omega arith); mid = λ h. absurd (omega (arith, h)); two = λ h. absurd (omega (arith, h)); one = λ h. absurd (omega (arith, h)) }
+
+module _ (T : ℕ → Bool) where
+  abbrev pub Goal : Expr → List Frame → Use → List Leaf → List Leaf → Type 0
+  Goal e fs u ls r = (ts : List Lexeme) (v : Outcome) → Met T ts ls → ((vs : List Lexeme) → Met T vs r → run T vs (have e fs u) ≡ v) → run T ts (operand fs u) ≡ v
+
+  abbrev pub All : Expr → Said → Type 0
+  All e S = (fs : List Frame) (u : Use) → hole fs u ≤ S.level → (r : List Leaf) → Follow S.level r → Goal e fs u (S.leaves (first fs u) r) r
+
+  pub record Claims (e : Expr) (S : Said) : Type 0 where
+    pub all : 1 ≤ S.level → All e S
+    pub exp : (fs : List Frame) (u : Use) → hole fs u ≡ 0 → (r : List Leaf) → Follow S.level r → Goal e fs u (S.leaves (entry (spot fs u) S) r) r
+
+  from_all : (e : Expr) (S : Said) → 1 ≤ S.level → All e S → Claims e S
+  from_all e S one all = record {
+    all = λ o. all;
+    exp = λ fs u z r f ts v mt k. all fs u (omega (arith, z)) r f ts v (met_as T ts _ _ (ap (λ n. S.leaves n r) (entry_open (spot fs u) S one ∙ sym (open_first fs u z))) mt) k;
+  }
+
+  pub alike : (s s2 : State) (ts : List Lexeme) (r : List Leaf) → m.at_end s ≡ m.at_end s2 → ((t : Lexeme) → sign_of_word t.word ≡ head_sign r → step s t ≡ step s2 t) → Met T ts r → run T ts s ≡ run T ts s2
+  alike s s2 [] r e same mt = e
+  alike s s2 (t ∷ ts) [] e same mt = absurd mt.meets
+  alike s s2 (t ∷ ts) (l ∷ ls) e same mt = ap (λ (x : Next). moved T (suc (length ts)) x (run T ts)) (same t (ap sign_of_word mt.meets.0))
+
+  pub filled : (e : Expr) (f : Frame) (fs : List Frame) (u : Use) (k : ℕ) (ts : List Lexeme) (r : List Leaf) → hole (f ∷ fs) u ≡ k → 1 ≤ k → k ≤ 16 → binds (head_sign r) ≤ k → ((s : Sign) (more : Next) → shut f e fs u s more ≡ more) → Met T ts r → run T ts (have e (f ∷ fs) u) ≡ run T ts (have (fill f e) fs u)
+  filled e f fs u k ts r is one high le through mt = alike (have e (f ∷ fs) u) (have (fill f e) fs u) ts r refl
+      (λ t st. shut_by (sign_of_word t.word) e f fs u (omega (arith, is, under (sign_of_word t.word) k one high (subst (λ s. binds s ≤ k) (sym st) le))) ∙ through _ _) mt
+
+  -- a word that an expression's operator is
+  operates : (e : Expr) (fs : List Frame) (u : Use) (s2 : State) (o : Op) (x : Sign) (n : ℕ) (p : At) → op_of x ≡ o → hole fs u ≤ own o → left o ≤ (about e).level → push o e fs u ≡ Some (n, s2) → step (have e fs u) (lex (a_sign x) p) ≡ Some (n, s2)
+  operates e fs u s2 o x n p is h l to = pushed o x e fs u is h l ∙ to
+
+  abbrev pub Good : Expr → Type 0
+  Good e = (about e).fits ≡ true → Claims e (about e)
+
+  number_good : (at : At) (v : ℕ) (d k : Bool) → Good (tree.Number at v d k)
+  number_good at v d k fits = subst (λ s. Claims (tree.Number at v d k) s) (sym (said_number at v d k)) (from_all _ _ (omega arith)
+      (λ fs u h r f ts w mt go. took T (operand fs u) (have (tree.Number at v d k) fs u) ts w (λ p st. ap (λ q. goes (first fs u) (have (tree.Number q v d k) fs u)) (sym st)) mt go))
+
+  character_good : (at : At) (v : ℤ) → Good (tree.Character at v)
+  character_good at v fits = subst (λ s. Claims (tree.Character at v) s) (sym (said_character at v)) (from_all _ _ (omega arith)
+      (λ fs u h r f ts w mt go. took T (operand fs u) (have (tree.Character at v) fs u) ts w (λ p st. ap (λ q. goes (first fs u) (have (tree.Character q v) fs u)) (sym st)) mt go))
+
+  name_good : (at : At) (n : List ℕ) → Good (tree.Name at n)
+  name_good at n fits = subst (λ s. Claims (tree.Name at n) s) (sym (said_name at n)) (from_all _ _ (omega arith)
+      (λ fs u h r f ts w mt go. took T (operand fs u) (named at n fs u) ts w (λ p st. ap (λ q. goes (first fs u) (named q n fs u)) (sym st)) mt
+        (λ vs mv. alike (named at n fs u) (have (tree.Name at n) fs u) vs r refl (λ t st. unnamed at n fs u (sign_of_word t.word) (subst (λ s. binds s ≤ 16) (sym st) f.top)) mv ∙ go vs mv)))
+
+  unary_good : (at : At) (o : UnaryOperator) (a : Expr) → Good a → Good (tree.Unary at o a)
+  unary_good at o a ga fits = subst (λ s. Claims (tree.Unary at o a) s) (sym (said_unary at o a)) (
+      let p = fit 13 a true (subst (λ (s : Said). s.fits ≡ true) (said_unary at o a) fits) in
+      from_all _ _ (omega arith)
+      (λ fs u h r f ts w mt go. took T (operand fs u) (operand (m.unary at o ∷ fs) u) ts w (λ q st. unary_step q o fs u ∙ ap (λ z. goes (first fs u) (operand (m.unary z o ∷ fs) u)) (sym st)) mt
+        (λ vs mv. (ga p.fits).all (omega (arith, p.level)) (m.unary at o ∷ fs) u p.level r (follow_up 13 _ r p.level (follow_13 r f)) vs w mv
+          (λ xs mx. filled a (m.unary at o) fs u 13 xs r refl (omega arith) (omega arith) (f.cast (omega arith)) (λ s more. refl) mx ∙ go xs mx))))
+
+  before_good : (at : At) (o : StepOperator) (a : Expr) → Good a → Good (tree.Before at o a)
+  before_good at o a ga fits = subst (λ s. Claims (tree.Before at o a) s) (sym (said_before at o a)) (
+      let p = fit 14 a true (subst (λ (s : Said). s.fits ≡ true) (said_before at o a) fits) in
+      from_all _ _ (omega arith)
+      (λ fs u h r f ts w mt go. took T (operand fs u) (operand (m.before at o ∷ fs) u) ts w (λ q st. before_step q o fs u ∙ ap (λ z. goes (first fs u) (operand (m.before z o ∷ fs) u)) (sym st)) mt
+        (λ vs mv. (ga p.fits).all (omega (arith, p.level)) (m.before at o ∷ fs) u p.level r (follow_up 14 _ r p.level f) vs w mv
+          (λ xs mx. filled a (m.before at o) fs u 14 xs r refl (omega arith) (omega arith) (omega (arith, f.cast)) (λ s more. refl) mx ∙ go xs mx))))
+
+  after_good : (at : At) (a : Expr) (o : StepOperator) → Good a → Good (tree.After at a o)
+  after_good at a o ga fits =
+      let p = left_fit at 15 a true (subst (λ (s : Said). s.fits ≡ true) (said_after at a o) fits) in
+      subst (λ s. Claims (tree.After at a o) s) (sym (said_after at a o)) (from_all _ _ (omega arith)
+      (λ fs u h r f ts w mt go. (ga p.fits).all (omega (arith, p.level)) fs u (omega (arith, h, p.level)) _ (reaches _ _ p.level) ts w mt
+        (λ vs mv. took T (have a fs u) (have (tree.After at a o) fs u) vs w (λ q st. operates a fs u _ (m.steps o) (step_sign o) _ q (step_op o) h p.level (ap (λ z. goes (first fs u + (about a).marks) (have (tree.After z a o) fs u)) (sym p.place))) mv go)))
+    where
+      reaches : (r : List Leaf) {n : ℕ} (l : ℕ) → 15 ≤ l → Follow l (a_sign_leaf (step_sign o) n ∷ r)
+      reaches r l h = let b = step_binds o in record { top = omega (arith, b); cast = λ g. absurd (omega (arith, g, h)); mid = λ g. absurd (omega (arith, g, h)); two = λ g. absurd (omega (arith, g, h)); one = λ g. absurd (omega (arith, g, h)) }
+
+  binary_good : (at : At) (a : Expr) (o : BinaryOperator) (b : Expr) → Good a → Good b → Good (tree.Binary at a o b)
+  binary_good at a o b ga gb fits =
+      let p = left_fit at (precedence o) a _ (subst (λ (s : Said). s.fits ≡ true) (said_binary at a o b) fits) in
+      let q = fit (suc (precedence o)) b true p.rest in
+      let lo = prec_low o in let hi = prec_high o in
+      subst (λ s. Claims (tree.Binary at a o b) s) (sym (said_binary at a o b)) (from_all _ _ (omega (arith, lo))
+      (λ fs u h r f ts w mt go. (ga p.fits).all (omega (arith, lo, p.level)) fs u (omega (arith, h, p.level)) _ (reaches _ _ p.level) ts w mt
+        (λ vs mv. took T (have a fs u) (operand (m.binary a o ∷ fs) u) vs w (λ z st. operates a fs u _ (m.joins o) (binary_sign o) _ z (binary_op o) h p.level refl) mv
+          (λ xs mx. (gb q.fits).all (omega (arith, q.level)) (m.binary a o ∷ fs) u q.level r (follow_up (precedence o) _ r (omega (arith, q.level)) f) xs w mx
+            (λ ys my. filled b (m.binary a o) fs u (suc (precedence o)) ys r refl (omega arith) (omega (arith, hi)) (f.mid hi) (λ s more. refl) my ∙ ap (λ z. run T ys (have (tree.Binary z a o b) fs u)) (sym p.place) ∙ go ys my)))))
+    where
+      reaches : (r : List Leaf) {n : ℕ} (l : ℕ) → precedence o ≤ l → Follow l (a_sign_leaf (binary_sign o) n ∷ r)
+      reaches r l h = let b = binary_binds o in let lo = prec_low o in let hi = prec_high o in record { top = omega (arith, b, hi); cast = λ g. omega (arith, b, hi); mid = λ g. omega (arith, b, h); two = λ g. absurd (omega (arith, g, h, lo)); one = λ g. absurd (omega (arith, g, h, lo)) }

@@ -5,6 +5,7 @@ use Rattle.std.proofs.lemmas.Bool.Decides.{nat_tests}
 use Rattle.std.proofs.lemmas.List.{append-nil}
 use Rattle.c_tree.specs.declared.token.At.{At}
 use Rattle.c_tree.specs.declared.syntax.TypeWords.{TypeWords}
+use Rattle.c_tree.specs.declared.syntax.TypeWords.TheVariants as words
 use Rattle.c_tree.specs.declared.syntax.BinaryOperator.{BinaryOperator}
 use Rattle.c_tree.specs.declared.syntax.BinaryOperator.TheVariants as binary_
 use Rattle.c_tree.specs.declared.syntax.AssignOperator.{AssignOperator}
@@ -26,11 +27,11 @@ use Rattle.c_grammar.specs.Spelling.{Stands}
 use Rattle.c_reading.specs.Parsers.{Wrong, Deep, same}
 use Rattle.c_reading.specs.Trees.{place_of, type_of, joined}
 use Rattle.c_parser.proofs.Machine as m
-use Rattle.c_parser.proofs.Machine.{State, operand, have, named, opened, casting, Frame, Use, step, run, Outcome, Next, goes, moved, hole, opens, entered, spot, first, Op, op_of, own, left, takes, push, fill, shut, offer, close_use}
+use Rattle.c_parser.proofs.Machine.{State, operand, have, named, opened, casting, Frame, Use, step, run, Outcome, Next, goes, moved, hole, opens, entered, spot, first, Op, op_of, own, left, is_op, takes, push, fill, shut, offer, close_use}
 use Rattle.c_parser.proofs.Trees.{at_of, induction, said_comma, said_assign, said_conditional, said_binary, said_cast, said_unary, said_before, said_after, said_name, said_element, said_call, said_number, said_character, said_paren}
 use Rattle.c_parser.proofs.Runs.{lex, head_sign, starts, Met, met_as, took, skip, typed, Typing, type_leaves, type_of_leaves}
 
-use Rattle.c_parser.proofs.ExprRuns.{Left, Fit, fit, left_fit, binds, Follow, follow_up, follow_none, follow_comma, prec_low, prec_high, binary_op, assign_op, step_op, binary_binds, assign_binds, step_binds, under, pushed, shut_by, open_hole, open_first, entry_open, heads, no_type}
+use Rattle.c_parser.proofs.ExprRuns.{Left, Fit, fit, left_fit, placed, binds, Follow, follow_up, follow_none, follow_comma, prec_low, prec_high, binary_op, assign_op, step_op, binary_binds, assign_binds, step_binds, under, pushed, shut_by, shut_none, open_hole, open_first, entry_open, heads, no_type}
 
 abbrev a_sign_leaf : Sign → ℕ → Leaf
 a_sign_leaf s n = leaf (a_sign s) None n
@@ -82,8 +83,8 @@ module _ (T : ℕ → Bool) where
       (λ t st. shut_by (sign_of_word t.word) e f fs u (omega (arith, is, under (sign_of_word t.word) k one high (subst (λ s. binds s ≤ k) (sym st) le))) ∙ through _ _) mt
 
   -- a word that an expression's operator is
-  operates : (e : Expr) (fs : List Frame) (u : Use) (s2 : State) (o : Op) (x : Sign) (n : ℕ) (p : At) → op_of x ≡ o → hole fs u ≤ own o → left o ≤ (about e).level → push o e fs u ≡ Some (n, s2) → step (have e fs u) (lex (a_sign x) p) ≡ Some (n, s2)
-  operates e fs u s2 o x n p is h l to = pushed o x e fs u is h l ∙ to
+  operates : (e : Expr) (fs : List Frame) (u : Use) (s2 : State) (o : Op) (x : Sign) (n : ℕ) (p : At) → op_of x ≡ o → is_op o ≡ true → hole fs u ≤ own o → left o ≤ (about e).level → push o e fs u ≡ Some (n, s2) → step (have e fs u) (lex (a_sign x) p) ≡ Some (n, s2)
+  operates e fs u s2 o x n p is op h l to = pushed o x e fs u is op h l ∙ to
 
   abbrev pub Good : Expr → Type 0
   Good e = (about e).fits ≡ true → Claims e (about e)
@@ -122,7 +123,7 @@ module _ (T : ℕ → Bool) where
       let p = left_fit at 15 a true (subst (λ (s : Said). s.fits ≡ true) (said_after at a o) fits) in
       subst (λ s. Claims (tree.After at a o) s) (sym (said_after at a o)) (from_all _ _ (omega arith)
       (λ fs u h r f ts w mt go. (ga p.fits).all (omega (arith, p.level)) fs u (omega (arith, h, p.level)) _ (reaches _ _ p.level) ts w mt
-        (λ vs mv. took T (have a fs u) (have (tree.After at a o) fs u) vs w (λ q st. operates a fs u _ (m.steps o) (step_sign o) _ q (step_op o) h p.level (ap (λ z. goes (first fs u + (about a).marks) (have (tree.After z a o) fs u)) (sym p.place))) mv go)))
+        (λ vs mv. took T (have a fs u) (have (tree.After at a o) fs u) vs w (λ q st. operates a fs u _ (m.steps o) (step_sign o) _ q (step_op o) refl h p.level (ap (λ z. goes (first fs u + (about a).marks) (have (tree.After z a o) fs u)) (sym p.place))) mv go)))
     where
       reaches : (r : List Leaf) {n : ℕ} (l : ℕ) → 15 ≤ l → Follow l (a_sign_leaf (step_sign o) n ∷ r)
       reaches r l h = let b = step_binds o in record { top = omega (arith, b); cast = λ g. absurd (omega (arith, g, h)); mid = λ g. absurd (omega (arith, g, h)); two = λ g. absurd (omega (arith, g, h)); one = λ g. absurd (omega (arith, g, h)) }
@@ -134,9 +135,96 @@ module _ (T : ℕ → Bool) where
       let lo = prec_low o in let hi = prec_high o in
       subst (λ s. Claims (tree.Binary at a o b) s) (sym (said_binary at a o b)) (from_all _ _ (omega (arith, lo))
       (λ fs u h r f ts w mt go. (ga p.fits).all (omega (arith, lo, p.level)) fs u (omega (arith, h, p.level)) _ (reaches _ _ p.level) ts w mt
-        (λ vs mv. took T (have a fs u) (operand (m.binary a o ∷ fs) u) vs w (λ z st. operates a fs u _ (m.joins o) (binary_sign o) _ z (binary_op o) h p.level refl) mv
+        (λ vs mv. took T (have a fs u) (operand (m.binary a o ∷ fs) u) vs w (λ z st. operates a fs u _ (m.joins o) (binary_sign o) _ z (binary_op o) refl h p.level refl) mv
           (λ xs mx. (gb q.fits).all (omega (arith, q.level)) (m.binary a o ∷ fs) u q.level r (follow_up (precedence o) _ r (omega (arith, q.level)) f) xs w mx
             (λ ys my. filled b (m.binary a o) fs u (suc (precedence o)) ys r refl (omega arith) (omega (arith, hi)) (f.mid hi) (λ s more. refl) my ∙ ap (λ z. run T ys (have (tree.Binary z a o b) fs u)) (sym p.place) ∙ go ys my)))))
     where
       reaches : (r : List Leaf) {n : ℕ} (l : ℕ) → precedence o ≤ l → Follow l (a_sign_leaf (binary_sign o) n ∷ r)
       reaches r l h = let b = binary_binds o in let lo = prec_low o in let hi = prec_high o in record { top = omega (arith, b, hi); cast = λ g. omega (arith, b, hi); mid = λ g. omega (arith, b, h); two = λ g. absurd (omega (arith, g, h, lo)); one = λ g. absurd (omega (arith, g, h, lo)) }
+
+  assign_good : (at : At) (a : Expr) (o : AssignOperator) (b : Expr) → Good a → Good b → Good (tree.Assign at a o b)
+  assign_good at a o b ga gb fits =
+      let p = left_fit at 14 a _ (subst (λ (s : Said). s.fits ≡ true) (said_assign at a o b) fits) in
+      let q = fit 1 b true p.rest in
+      subst (λ s. Claims (tree.Assign at a o b) s) (sym (said_assign at a o b)) (from_all _ _ (omega arith)
+      (λ fs u h r f ts w mt go. (ga p.fits).all (omega (arith, p.level)) fs u (omega (arith, h, p.level)) _ (reaches _ _ p.level) ts w mt
+        (λ vs mv. took T (have a fs u) (operand (m.assign a o ∷ fs) u) vs w (λ z st. operates a fs u _ (m.assigns o) (assign_sign o) _ z (assign_op o) refl h p.level refl) mv
+          (λ xs mx. (gb q.fits).all q.level (m.assign a o ∷ fs) u q.level r (follow_up 1 _ r q.level f) xs w mx
+            (λ ys my. filled b (m.assign a o) fs u 1 ys r refl (omega arith) (omega arith) (f.one (omega arith)) (λ s more. refl) my ∙ ap (λ z. run T ys (have (tree.Assign z a o b) fs u)) (sym p.place) ∙ go ys my)))))
+    where
+      reaches : (r : List Leaf) {n : ℕ} (l : ℕ) → 14 ≤ l → Follow l (a_sign_leaf (assign_sign o) n ∷ r)
+      reaches r l h = let b = assign_binds o in record { top = omega (arith, b); cast = λ g. omega (arith, b); mid = λ g. absurd (omega (arith, g, h)); two = λ g. absurd (omega (arith, g, h)); one = λ g. absurd (omega (arith, g, h)) }
+
+  comma_good : (at : At) (a b : Expr) → Good a → Good b → Good (tree.Comma at a b)
+  comma_good at a b ga gb fits =
+      let f0 : (is_at at (about a).at && ((about a).fits && (stands 1 (about b) && true))) ≡ true = subst (λ (s : Said). s.fits ≡ true) (said_comma at a b) fits in
+      let p = and_parts (is_at at (about a).at) _ f0 in
+      let p2 = and_parts (about a).fits _ p.1 in
+      let q = fit 1 b true p2.1 in
+      let place : at ≡ place_of a = placed at a p.0 in
+      subst (λ s. Claims (tree.Comma at a b) s) (sym (said_comma at a b)) (record {
+        all = λ one. absurd (omega (arith, one));
+        exp = λ fs u z r f ts w mt go. (ga p2.0).exp fs u z _ (follow_comma _ _ refl) ts w mt
+          (λ vs mv. took T (have a fs u) (operand (m.comma a ∷ fs) u) vs w (λ y st. operates a fs u _ m.commas sign.Comma _ y refl refl (omega (arith, z)) (omega arith) refl) mv
+            (λ xs mx. (gb q.fits).all q.level (m.comma a ∷ fs) u q.level r (follow_up 0 _ r (omega arith) f) xs w mx
+              (λ ys my. filled b (m.comma a) fs u 1 ys r refl (omega arith) (omega arith) (f.one (omega arith)) (λ s more. refl) my ∙ ap (λ y. run T ys (have (tree.Comma y a b) fs u)) (sym place) ∙ go ys my)));
+      })
+
+  conditional_good : (at : At) (a b c : Expr) → Good a → Good b → Good c → Good (tree.Conditional at a b c)
+  conditional_good at a b c ga gb gc fits =
+      let p = left_fit at 3 a _ (subst (λ (s : Said). s.fits ≡ true) (said_conditional at a b c) fits) in
+      let p2 = and_parts (about b).fits _ p.rest in
+      let q = fit 2 c true p2.1 in
+      subst (λ s. Claims (tree.Conditional at a b c) s) (sym (said_conditional at a b c)) (from_all _ _ (omega arith)
+      (λ fs u h r f ts w mt go. (ga p.fits).all (omega (arith, p.level)) fs u (omega (arith, h, p.level)) _ (reaches _ _ p.level) ts w mt
+        (λ vs mv. took T (have a fs u) (operand (m.question a ∷ fs) u) vs w (λ z st. operates a fs u _ m.asks sign.Question _ z refl refl h p.level refl) mv
+          (λ xs mx. (gb p2.0).exp (m.question a ∷ fs) u refl _ (follow_none _ _ refl) xs w mx
+            (λ ys my. took T (have b (m.question a ∷ fs) u) (operand (m.colon a b ∷ fs) u) ys w (λ z st. shut_none sign.Colon b (m.question a) fs u refl) my
+              (λ ws mw. (gc q.fits).all (omega (arith, q.level)) (m.colon a b ∷ fs) u q.level r (follow_up 2 _ r q.level f) ws w mw
+                (λ zs mz. filled c (m.colon a b) fs u 2 zs r refl (omega arith) (omega arith) (f.two (omega arith)) (λ s more. refl) mz ∙ ap (λ z. run T zs (have (tree.Conditional z a b c) fs u)) (sym p.place) ∙ go zs mz)))))))
+    where
+      reaches : (r : List Leaf) {n : ℕ} (l : ℕ) → 3 ≤ l → Follow l (a_sign_leaf sign.Question n ∷ r)
+      reaches r l h = record { top = omega arith; cast = λ g. omega arith; mid = λ g. omega (arith, h); two = λ g. absurd (omega (arith, g, h)); one = λ g. absurd (omega (arith, g, h)) }
+
+  paren_good : (at : At) (a : Expr) → Good a → Good (tree.Paren at a)
+  paren_good at a ga fits =
+      let p = and_parts (about a).fits _ (subst (λ (s : Said). s.fits ≡ true) (said_paren at a) fits) in
+      subst (λ s. Claims (tree.Paren at a) s) (sym (said_paren at a)) (from_all _ _ (omega arith)
+      (λ fs u h r f ts w mt go. took T (operand fs u) (opened at fs u) ts w (λ q st. ap (λ z. goes (first fs u) (opened z fs u)) (sym st)) mt
+        (λ vs mv. skip T (opened at fs u) (operand (m.paren at ∷ fs) u) vs (λ t st. ap (λ o. m.on_opened at t.at t.word o fs u) (no_type _ st)) (heads a _ _) mv
+          ∙ (ga p.0).exp (m.paren at ∷ fs) u refl _ (follow_none _ _ refl) vs w mv
+            (λ xs mx. took T (have a (m.paren at ∷ fs) u) (have (tree.Paren at a) fs u) xs w (λ z st. shut_none sign.RightParen a (m.paren at) fs u refl) mx go))))
+
+  element_good : (at : At) (n : List ℕ) (a : Expr) → Good a → Good (tree.Element at n a)
+  element_good at n a ga fits =
+      let p = and_parts (about a).fits _ (subst (λ (s : Said). s.fits ≡ true) (said_element at n a) fits) in
+      subst (λ s. Claims (tree.Element at n a) s) (sym (said_element at n a)) (from_all _ _ (omega arith)
+      (λ fs u h r f ts w mt go. took T (operand fs u) (named at n fs u) ts w (λ q st. ap (λ z. goes (first fs u) (named z n fs u)) (sym st)) mt
+        (λ ws mw. took T (named at n fs u) (operand (m.element at n ∷ fs) u) ws w (λ q st. refl) mw
+          (λ vs mv. (ga p.0).exp (m.element at n ∷ fs) u refl _ (follow_none _ _ refl) vs w mv
+            (λ xs mx. took T (have a (m.element at n ∷ fs) u) (have (tree.Element at n a) fs u) xs w (λ z st. shut_none sign.RightBracket a (m.element at n) fs u refl) mx go)))))
+
+  cast_good : (at : At) (t : TypeWords) (a : Expr) → Good a → Good (tree.Cast at t a)
+  cast_good at t a ga fits =
+      let p = fit 13 a true (fits_behind t (subst (λ (s : Said). s.fits ≡ true) (said_cast at t a) fits)) in
+      subst (λ s. Claims (tree.Cast at t a) s) (sym (said_cast at t a)) (from_all _ _ (omega arith)
+      (λ fs u h r f ts w mt go. took T (operand fs u) (opened at fs u) ts w (λ q st. ap (λ z. goes (first fs u) (opened z fs u)) (sym st)) mt
+        (λ vs mv. typed T None (opened at fs u) (λ y. casting at y fs u) (first fs u) (typing fs u) t _ vs w (met_as T vs _ _ (type_of_leaves T t _ _ _) mv)
+          (λ xs mx. took T (casting at t fs u) (operand (m.cast at t ∷ fs) u) xs w (λ z st. ap (λ o. m.on_casting at t sign.RightParen o fs u) (no_more t)) mx
+            (λ ys my. (ga p.fits).all (omega (arith, p.level)) (m.cast at t ∷ fs) u p.level r (follow_up 13 _ r p.level f) ys w my
+              (λ zs mz. filled a (m.cast at t) fs u 13 zs r refl (omega arith) (omega arith) (f.cast (omega arith)) (λ s more. refl) mz ∙ go zs mz))))))
+    where
+      typing : (fs : List Frame) (u : Use) → Typing T None (opened at fs u) (λ y. casting at y fs u) (first fs u)
+      typing fs u = record {
+        begins = λ x y is q st. ap (λ o. m.on_opened at q (a_sign x) o fs u) is;
+        extends = λ y x y2 is q. ap (λ o. m.on_casting at y x o fs u) is;
+      }
+
+      no_more : (y : TypeWords) → joined y sign.RightParen ≡ None
+      no_more words.Char = refl
+      no_more _ = refl
+
+      fits_behind : (y : TypeWords) → all_fit (type y ++ operator sign.RightParen ∷ sub 13 (about a) ∷ []) ≡ true → (stands 13 (about a) && true) ≡ true
+      fits_behind words.Char h = h
+      fits_behind words.SignedChar h = h
+      fits_behind _ h = h

@@ -26,7 +26,7 @@ use Rattle.c_grammar.specs.Spelling.{Stands}
 use Rattle.c_reading.specs.Parsers.{Wrong, Deep, same}
 use Rattle.c_reading.specs.Trees.{place_of, type_of, joined}
 use Rattle.c_parser.proofs.Machine as m
-use Rattle.c_parser.proofs.Machine.{State, operand, have, named, opened, casting, Frame, Use, step, run, Outcome, Next, goes, moved, hole, opens, entered, spot, first, Op, op_of, own, left, takes, push, fill, shut, offer, close_use}
+use Rattle.c_parser.proofs.Machine.{State, operand, have, named, opened, casting, Frame, Use, step, run, Outcome, Next, goes, moved, hole, opens, entered, spot, first, Op, op_of, own, left, is_op, takes, push, fill, shut, offer, close_use}
 use Rattle.c_parser.proofs.Trees.{at_of, induction, said_comma, said_assign, said_conditional, said_binary, said_cast, said_unary, said_before, said_after, said_name, said_element, said_call, said_number, said_character, said_paren}
 use Rattle.c_parser.proofs.Runs.{lex, head_sign, starts, Met, met_as, took, skip, typed, Typing, type_leaves, type_of_leaves}
 
@@ -146,21 +146,29 @@ under s k one high le = bound_own (op_of s) k one le
 
 -- ---- what an operator does
 
-pub takes_it : (fs : List Frame) (u : Use) (o : Op) (e : Expr) → hole fs u ≤ own o → left o ≤ (about e).level → takes fs u o e ≡ true
-takes_it fs u o e h l = and_from _ _ (le-leb _ _ h) (le-leb _ _ l)
+pub takes_it : (fs : List Frame) (u : Use) (o : Op) (e : Expr) → is_op o ≡ true → hole fs u ≤ own o → left o ≤ (about e).level → takes fs u o e ≡ true
+takes_it fs u o e is h l = and_from _ _ is (and_from _ _ (le-leb _ _ h) (le-leb _ _ l))
+
+pub never : (b c d : Bool) → c ≡ false → (b && (c && d)) ≡ false
+never true c d h = ap (λ x. x && d) h
+never false c d h = refl
 
 pub passes : (fs : List Frame) (u : Use) (o : Op) (e : Expr) → own o < hole fs u → takes fs u o e ≡ false
-passes fs u o e h = let f : nat_le (hole fs u) (own o) ≡ false = grind (arith, nat_tests, h) in ap (λ b. b && nat_le (left o) (about e).level) f
+passes fs u o e h = let f : nat_le (hole fs u) (own o) ≡ false = grind (arith, nat_tests, h) in never (is_op o) _ _ f
 
 pub offered : (s : Sign) (e : Expr) (fs : List Frame) (u : Use) → takes fs u (op_of s) e ≡ true → offer s e fs u ≡ push (op_of s) e fs u
 offered s e [] u h = rw h refl
 offered s e (f ∷ fs) u h = rw h refl
 
-pub pushed : (o : Op) (s : Sign) (e : Expr) (fs : List Frame) (u : Use) → op_of s ≡ o → hole fs u ≤ own o → left o ≤ (about e).level → offer s e fs u ≡ push o e fs u
-pushed o s e fs u is h l = offered s e fs u (subst (λ p. takes fs u p e ≡ true) (sym is) (takes_it fs u o e h l)) ∙ ap (λ p. push p e fs u) is
+pub pushed : (o : Op) (s : Sign) (e : Expr) (fs : List Frame) (u : Use) → op_of s ≡ o → is_op o ≡ true → hole fs u ≤ own o → left o ≤ (about e).level → offer s e fs u ≡ push o e fs u
+pushed o s e fs u is op h l = offered s e fs u (subst (λ p. takes fs u p e ≡ true) (sym is) (takes_it fs u o e op h l)) ∙ ap (λ p. push p e fs u) is
 
 pub shut_by : (s : Sign) (e : Expr) (f : Frame) (fs : List Frame) (u : Use) → own (op_of s) < hole (f ∷ fs) u → offer s e (f ∷ fs) u ≡ shut f e fs u s (offer s (fill f e) fs u)
 shut_by s e f fs u h = ap (λ b. cond b (push (op_of s) e (f ∷ fs) u) (shut f e fs u s (offer s (fill f e) fs u))) (passes (f ∷ fs) u (op_of s) e h)
+
+-- a sign that is no operator
+pub shut_none : (s : Sign) (e : Expr) (f : Frame) (fs : List Frame) (u : Use) → op_of s ≡ m.closes → offer s e (f ∷ fs) u ≡ shut f e fs u s (offer s (fill f e) fs u)
+shut_none s e f fs u h = ap (λ (o : Op). cond (takes (f ∷ fs) u o e) (push (op_of s) e (f ∷ fs) u) (shut f e fs u s (offer s (fill f e) fs u))) h
 
 pub open_hole : (fs : List Frame) (u : Use) → hole fs u ≡ 0 → opens fs ≡ true
 open_hole [] u h = refl

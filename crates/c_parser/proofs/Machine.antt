@@ -281,10 +281,14 @@ left (assigns o) = 14
 left (steps o) = 15
 left asks = 3
 left commas = 0
-left closes = 99
+left closes = 0
+
+abbrev pub is_op : Op → Bool
+is_op closes = false
+is_op _ = true
 
 abbrev pub takes : List Frame → Use → Op → Expr → Bool
-takes fs u o e = nat_le (hole fs u) (own o) && nat_le (left o) (about e).level
+takes fs u o e = is_op o && (nat_le (hole fs u) (own o) && nat_le (left o) (about e).level)
 
 abbrev pub Next : Type 0
 Next = Option (ℕ × State)

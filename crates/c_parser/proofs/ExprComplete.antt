@@ -228,3 +228,59 @@ module _ (T : ℕ → Bool) where
       fits_behind words.Char h = h
       fits_behind words.SignedChar h = h
       fits_behind _ h = h
+
+  -- ---- arguments
+
+  abbrev pub Known : Type 0
+  Known = (e : Expr) × Good e
+
+  abbrev pub trees : List Known → List Expr
+  trees = map (λ a. a.0)
+
+  abbrev closing : List Known → List Part
+  closing es = commas assign (map about (trees es)) ++ the_sign sign.RightParen ∷ []
+
+  arguments_run : (at : At) (n : List ℕ) (fs : List Frame) (u : Use) (done : List Expr) (e : Known) (es : List Known) → all_fit (closing (e ∷ es)) ≡ true → (r : List Leaf) (ts : List Lexeme) (v : Outcome)
+      → Met T ts (leaves_of (closing (e ∷ es)) (first fs u) r) → ((vs : List Lexeme) → Met T vs r → run T vs (have (tree.Call at n (done ++ trees (e ∷ es))) fs u) ≡ v) → run T ts (operand (m.arguments at n done ∷ fs) u) ≡ v
+  arguments_run at n fs u done e [] fits r ts w mt go =
+      let p = fit 1 e.0 true fits in
+      (e.1 p.fits).all p.level (m.arguments at n done ∷ fs) u p.level _ (follow_none _ _ refl) ts w mt
+        (λ xs mx. took T (have e.0 (m.arguments at n done ∷ fs) u) (have (tree.Call at n (done ++ e.0 ∷ [])) fs u) xs w (λ z st. shut_none sign.RightParen e.0 (m.arguments at n done) fs u refl) mx go)
+  arguments_run at n fs u done e (f ∷ es) fits r ts w mt go =
+      let p = fit 1 e.0 _ fits in
+      (e.1 p.fits).all p.level (m.arguments at n done ∷ fs) u p.level _ (follow_comma _ _ refl) ts w mt
+        (λ xs mx. took T (have e.0 (m.arguments at n done ∷ fs) u) (operand (m.arguments at n (done ++ e.0 ∷ []) ∷ fs) u) xs w (λ z st. shut_by sign.Comma e.0 (m.arguments at n done) fs u (omega arith)) mx
+          (λ ys my. arguments_run at n fs u (done ++ e.0 ∷ []) f es p.rest r ys w my (λ zs mz. ap (λ l. run T zs (have (tree.Call at n l) fs u)) (append_assoc done (e.0 ∷ []) (trees (f ∷ es))) ∙ go zs mz)))
+
+  first_head : (e : Known) (es : List Known) (n : ℕ) (r : List Leaf) → starts (head_sign (leaves_of (closing (e ∷ es)) n r)) ≡ true
+  first_head e [] n r = heads e.0 _ _
+  first_head e (f ∷ es) n r = heads e.0 _ _
+
+  call_good : (at : At) (n : List ℕ) (es : List Known) → Good (tree.Call at n (trees es))
+  call_good at n es fits = subst (λ s. Claims (tree.Call at n (trees es)) s) (sym (said_call at n (trees es))) (from_all _ _ (omega arith)
+      (λ fs u h r f ts w mt go. took T (operand fs u) (named at n fs u) ts w (λ q st. ap (λ z. goes (first fs u) (named z n fs u)) (sym st)) mt
+        (λ ws mw. took T (named at n fs u) (m.either sign.RightParen (first fs u) (have (tree.Call at n []) fs u) (operand (m.arguments at n [] ∷ fs) u)) ws w (λ q st. refl) mw (λ vs mv. called es (subst (λ (s : Said). s.fits ≡ true) (said_call at n (trees es)) fits) fs u r vs w mv go))))
+    where
+      called : (es : List Known) → all_fit (closing es) ≡ true → (fs : List Frame) (u : Use) (r : List Leaf) (ts : List Lexeme) (w : Outcome) → Met T ts (leaves_of (closing es) (first fs u) r) → ((vs : List Lexeme) → Met T vs r → run T vs (have (tree.Call at n (trees es)) fs u) ≡ w) → run T ts (m.either sign.RightParen (first fs u) (have (tree.Call at n []) fs u) (operand (m.arguments at n [] ∷ fs) u)) ≡ w
+      called [] fits fs u r ts w mt go = took T (m.either sign.RightParen (first fs u) (have (tree.Call at n []) fs u) (operand (m.arguments at n [] ∷ fs) u)) (have (tree.Call at n []) fs u) ts w (λ z st. refl) mt go
+      called (e ∷ es) fits fs u r ts w mt go = skip T (m.either sign.RightParen (first fs u) (have (tree.Call at n []) fs u) (operand (m.arguments at n [] ∷ fs) u)) (operand (m.arguments at n [] ∷ fs) u) ts
+          (λ t st. ap (λ b. cond b (goes (first fs u) (have (tree.Call at n []) fs u)) (step (operand (m.arguments at n [] ∷ fs) u) t)) (no_close _ st)) (first_head e es _ _) mt ∙ arguments_run at n fs u [] e es fits r ts w mt go
+
+  -- the words of an expression that fits lead from where one is wanted to where it is had
+  pub complete : (e : Expr) → Good e
+  complete = induction Good (record {
+    comma_ = comma_good;
+    assign_ = assign_good;
+    conditional_ = conditional_good;
+    binary_ = binary_good;
+    cast_ = cast_good;
+    unary_ = unary_good;
+    before_ = before_good;
+    after_ = after_good;
+    name_ = name_good;
+    element_ = element_good;
+    call_ = call_good;
+    number_ = number_good;
+    character_ = character_good;
+    paren_ = paren_good;
+  })

@@ -29,7 +29,7 @@ use Rattle.c_reading.specs.Trees.{place_of, type_of, joined}
 use Rattle.c_parser.proofs.Machine as m
 use Rattle.c_parser.proofs.Machine.{State, operand, have, named, opened, casting, Frame, Use, step, run, Outcome, Next, goes, moved, hole, opens, entered, spot, first, Op, op_of, own, left, is_op, takes, push, fill, shut, offer, close_use}
 use Rattle.c_parser.proofs.Trees.{at_of, induction, said_comma, said_assign, said_conditional, said_binary, said_cast, said_unary, said_before, said_after, said_name, said_element, said_call, said_number, said_character, said_paren}
-use Rattle.c_parser.proofs.Runs.{lex, head_sign, starts, Met, met_as, took, skip, typed, Typing, type_leaves, type_of_leaves}
+use Rattle.c_parser.proofs.Runs.{lex, head_sign, starts, Met, met_as, took, skip, alike, typed, Typing, type_leaves, type_of_leaves}
 
 use Rattle.c_parser.proofs.ExprRuns.{Left, Fit, fit, left_fit, placed, binds, Follow, follow_up, follow_none, follow_comma, prec_low, prec_high, binary_op, assign_op, step_op, binary_binds, assign_binds, step_binds, under, pushed, shut_by, shut_none, open_hole, open_first, entry_open, heads, no_type}
 
@@ -73,13 +73,8 @@ module _ (T : ℕ → Bool) where
     exp = λ fs u z r f ts v mt k. all fs u (omega (arith, z)) r f ts v (met_as T ts _ _ (ap (λ n. S.leaves n r) (entry_open (spot fs u) S one ∙ sym (open_first fs u z))) mt) k;
   }
 
-  pub alike : (s s2 : State) (ts : List Lexeme) (r : List Leaf) → m.at_end s ≡ m.at_end s2 → ((t : Lexeme) → sign_of_word t.word ≡ head_sign r → step s t ≡ step s2 t) → Met T ts r → run T ts s ≡ run T ts s2
-  alike s s2 [] r e same mt = e
-  alike s s2 (t ∷ ts) [] e same mt = absurd mt.meets
-  alike s s2 (t ∷ ts) (l ∷ ls) e same mt = ap (λ (x : Next). moved T (suc (length ts)) x (run T ts)) (same t (ap sign_of_word mt.meets.0))
-
   pub filled : (e : Expr) (f : Frame) (fs : List Frame) (u : Use) (k : ℕ) (ts : List Lexeme) (r : List Leaf) → hole (f ∷ fs) u ≡ k → 1 ≤ k → k ≤ 16 → binds (head_sign r) ≤ k → ((s : Sign) (more : Next) → shut f e fs u s more ≡ more) → Met T ts r → run T ts (have e (f ∷ fs) u) ≡ run T ts (have (fill f e) fs u)
-  filled e f fs u k ts r is one high le through mt = alike (have e (f ∷ fs) u) (have (fill f e) fs u) ts r refl
+  filled e f fs u k ts r is one high le through mt = alike T (have e (f ∷ fs) u) (have (fill f e) fs u) ts r refl
       (λ t st. shut_by (sign_of_word t.word) e f fs u (omega (arith, is, under (sign_of_word t.word) k one high (subst (λ s. binds s ≤ k) (sym st) le))) ∙ through _ _) mt
 
   -- a word that an expression's operator is
@@ -100,7 +95,7 @@ module _ (T : ℕ → Bool) where
   name_good : (at : At) (n : List ℕ) → Good (tree.Name at n)
   name_good at n fits = subst (λ s. Claims (tree.Name at n) s) (sym (said_name at n)) (from_all _ _ (omega arith)
       (λ fs u h r f ts w mt go. took T (operand fs u) (named at n fs u) ts w (λ p st. ap (λ q. goes (first fs u) (named q n fs u)) (sym st)) mt
-        (λ vs mv. alike (named at n fs u) (have (tree.Name at n) fs u) vs r refl (λ t st. unnamed at n fs u (sign_of_word t.word) (subst (λ s. binds s ≤ 16) (sym st) f.top)) mv ∙ go vs mv)))
+        (λ vs mv. alike T (named at n fs u) (have (tree.Name at n) fs u) vs r refl (λ t st. unnamed at n fs u (sign_of_word t.word) (subst (λ s. binds s ≤ 16) (sym st) f.top)) mv ∙ go vs mv)))
 
   unary_good : (at : At) (o : UnaryOperator) (a : Expr) → Good a → Good (tree.Unary at o a)
   unary_good at o a ga fits = subst (λ s. Claims (tree.Unary at o a) s) (sym (said_unary at o a)) (

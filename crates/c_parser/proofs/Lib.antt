@@ -3,3 +3,4 @@ mod Trees
 mod Runs
 mod ExprRuns
 mod ExprComplete
+mod DeclComplete

@@ -13,7 +13,7 @@ use Rattle.c_grammar.specs.Grammar.{about, type}
 use Rattle.c_grammar.specs.Spelling.{Stands}
 use Rattle.c_reading.specs.Parsers.{Wrong, Deep}
 use Rattle.c_reading.specs.Trees.{place_of, type_of, joined}
-use Rattle.c_parser.proofs.Machine.{State, step, run, Outcome, Next, moved}
+use Rattle.c_parser.proofs.Machine.{State, step, run, Outcome, Next, moved, at_end}
 use Rattle.c_parser.proofs.Trees.{at_of}
 
 abbrev pub lex : Word → At → Lexeme
@@ -56,11 +56,21 @@ module _ (T : ℕ → Bool) where
       let goes : step s t ≡ Some (n, s2) = ap (λ l. step s l) same ∙ e t.at m.meets.1 in
       ap (λ (x : Next). moved T (suc (length ts)) x (run T ts)) goes ∙ ap (λ b. cond b (run T ts s2) (Err (Deep (suc (length ts))))) m.meets.2 ∙ k ts (record { meets = m.meets.3 })
 
+  -- the same where the next state has the word's place
+  pub took_any : (s : State) (s2 : At → State) {w : Word} {o : Option At} {n : ℕ} {r : List Leaf} (ts : List Lexeme) (v : Outcome) → ((p : At) → step s (lex w p) ≡ Some (n, s2 p)) → Met ts (leaf w o n ∷ r) → ((p : At) (vs : List Lexeme) → Met vs r → run T vs (s2 p) ≡ v) → run T ts s ≡ v
+  took_any s s2 [] v e m k = absurd m.meets
+  took_any s s2 {w} {o} {n} {r} (t ∷ ts) v e m k = took s (s2 t.at) {o = Some t.at} {n = n} {r = r} (t ∷ ts) v (λ p st. subst (λ q. step s (lex w q) ≡ Some (n, s2 t.at)) st (e t.at)) (record { meets = (m.meets.0, refl, m.meets.2, m.meets.3) }) (k t.at)
+
   -- the first word does the same to both states
   pub skip : (s s2 : State) {ls : List Leaf} (ts : List Lexeme) → ((t : Lexeme) → starts (sign_of_word t.word) ≡ true → step s t ≡ step s2 t) → starts (head_sign ls) ≡ true → Met ts ls → run T ts s ≡ run T ts s2
   skip s s2 {ls = []} ts e st m = absurd cc
   skip s s2 {ls = l ∷ ls} [] e st m = absurd m.meets
   skip s s2 {ls = l ∷ ls} (t ∷ ts) e st m = ap (λ (x : Next). moved T (suc (length ts)) x (run T ts)) (e t (ap (λ w. starts (sign_of_word w)) m.meets.0 ∙ st))
+
+  pub alike : (s s2 : State) (ts : List Lexeme) (r : List Leaf) → at_end s ≡ at_end s2 → ((t : Lexeme) → sign_of_word t.word ≡ head_sign r → step s t ≡ step s2 t) → Met ts r → run T ts s ≡ run T ts s2
+  alike s s2 [] r e same m = e
+  alike s s2 (t ∷ ts) [] e same m = absurd m.meets
+  alike s s2 (t ∷ ts) (l ∷ ls) e same m = ap (λ (x : Next). moved T (suc (length ts)) x (run T ts)) (same t (ap sign_of_word m.meets.0))
 
   -- ---- types
 

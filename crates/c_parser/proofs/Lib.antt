@@ -4,3 +4,4 @@ mod Runs
 mod ExprRuns
 mod ExprComplete
 mod DeclComplete
+mod StatComplete

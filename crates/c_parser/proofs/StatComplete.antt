@@ -42,7 +42,7 @@ use Rattle.c_parser.proofs.Machine as m
 use Rattle.c_parser.proofs.Machine.{State, operand, have, want, got, Use, Under, step, run, Outcome, Next, goes, moved, hole, first, outer, use_hole, op_of, closes, close_use, close_block, is_block, inside, add, maybe_behind, start_behind, for_test, for_next, offer, Home, home_nesting, conclude, header, either, expect}
 use Rattle.c_parser.proofs.Trees.{at_of, stat_induction, told_block, told_declared, told_evaluate, told_if, told_if_else, told_while, told_dowhile, told_for, told_switch, told_case, told_default, told_break, told_continue, told_return}
 use Rattle.c_parser.proofs.Runs.{lex, head_sign, starts, Met, met_as, took, took_any, skip, alike, type_leaves, type_at_leaves}
-use Rattle.c_parser.proofs.ExprRuns.{Fit, fit, placed, Follow, follow_none, heads}
+use Rattle.c_parser.proofs.ExprRuns.{Fit, fit, placed, binds, entry_open, Follow, follow_none, heads}
 use Rattle.c_parser.proofs.ExprComplete.{complete}
 use Rattle.c_parser.proofs.DeclComplete.{not_at, Opens, declaration_run, heading_run}
 
@@ -241,3 +241,169 @@ opens_block us h = record { with_type = λ x t is p. ap (λ b. cond b (m.on_item
     typed sign.Signed t is p = ap (λ o. m.on_declaration p sign.Signed o (m.at_block us) (m.on_statement p (a_sign sign.Signed) sign.Signed us)) is
     typed sign.Unsigned t is p = ap (λ o. m.on_declaration p sign.Unsigned o (m.at_block us) (m.on_statement p (a_sign sign.Unsigned) sign.Unsigned us)) is
     typed _ t is p = absurd cc
+
+pub record Part_fit (k : ℕ) (a : Statement) (more : Bool) : Type 0 where
+  pub level : k ≤ (about_statement a).level
+  pub fits : (about_statement a).fits ≡ true
+  pub rest : more ≡ true
+
+part_fit : (k : ℕ) (a : Statement) (more : Bool) → (stands k (about_statement a) && more) ≡ true → Part_fit k a more
+part_fit k a more e = let p = and_parts (stands k (about_statement a)) more e in let q = and_parts (nat_le k (about_statement a).level) (about_statement a).fits p.0 in record { level = leb-true k _ q.0; fits = q.1; rest = p.1 }
+
+-- no else stands behind what one could join
+pub record Later (l : ℕ) (r : List Leaf) : Type 0 where
+  pub holds : l ≡ 1 → same (head_sign r) sign.Else ≡ false
+
+module _ (T : ℕ → Bool) where
+  abbrev pub Goal : State → State → List Leaf → List Leaf → Type 0
+  Goal s s2 ls r = (ts : List Lexeme) (v : Outcome) → Met T ts ls → ((vs : List Lexeme) → Met T vs r → run T vs s2 ≡ v) → run T ts s ≡ v
+
+  pub record Claims (x : Statement) (S : Said) : Type 0 where
+    pub all : 1 ≤ S.level → (us : List Under) (r : List Leaf) → Later S.level r → Goal (want us) (got x us) (S.leaves (suc (inside us)) r) r
+    pub item : (us : List Under) → is_block us ≡ true → (r : List Leaf) → Later S.level r → Goal (want us) (want (add x us)) (S.leaves (entry (inside us) S) r) r
+
+  abbrev All : Statement → Said → Type 0
+  All x S = (us : List Under) (r : List Leaf) → Later S.level r → Goal (want us) (got x us) (S.leaves (suc (inside us)) r) r
+
+  from_all : (x : Statement) (S : Said) → 1 ≤ S.level → All x S → Claims x S
+  from_all x S one all = record {
+    all = λ o. all;
+    item = λ us h r l ts v mt go. all us r l ts v (met_as T ts _ _ (ap (λ n. S.leaves n r) (entry_open (inside us) S one)) mt)
+        (λ vs mv. alike T (got x us) (want (add x us)) vs r refl (λ t st. settle_block x us t h) mv ∙ go vs mv);
+  }
+
+  abbrev pub Good : Statement → Type 0
+  Good x = (about_statement x).fits ≡ true → Claims x (about_statement x)
+
+  -- a word of its own begins a statement
+  begins : (us : List Under) (s2 : At → State) (x : Sign) (at : At) (n : ℕ) (r : List Leaf) → plain x ≡ true → ((q : At) → m.on_statement q (a_sign x) x us ≡ Some (n, s2 q)) → (ts : List Lexeme) (v : Outcome) → Met T ts (leaf (a_sign x) (Some at) n ∷ r) → ((vs : List Lexeme) → Met T vs r → run T vs (s2 at) ≡ v) → run T ts (want us) ≡ v
+  begins us s2 x at n r h does ts v mt go = took T (want us) (s2 at) ts v (λ q st. wanted q (a_sign x) us h ∙ does q ∙ ap (λ z. Some (n, s2 z)) (sym st)) mt go
+
+  -- the value that is read for a use, up to a word
+  value_run : (e : Expr) (u : Use) (close : Sign) (s2 : State) → use_hole u ≡ 0 → op_of close ≡ closes → binds close ≡ 0 → close_use u e close ≡ Some (behind (outer u) (about e), s2) → (about e).fits ≡ true → (r : List Leaf) → Goal (operand [] u) s2 ((about e).leaves (entry (outer u) (about e)) (leaf (a_sign close) None (behind (outer u) (about e)) ∷ r)) r
+  value_run e u close s2 hole0 op bind does fits r ts v mt go = (complete T e fits).exp [] u hole0 _ (follow_none _ _ bind) ts v mt
+      (λ vs mv. took T (have e [] u) s2 vs v (λ q st. ap (λ o. cond (m.takes [] u o e) (m.push o e [] u) (close_use u e close)) op ∙ does) mv go)
+
+  condition_run : (e : Expr) (u : Use) (s2 : State) (more : List Part) → use_hole u ≡ 0 → close_use u e sign.RightParen ≡ Some (behind (outer u) (about e), s2) → (about e).fits ≡ true → (r : List Leaf)
+      → Goal (expect sign.LeftParen (outer u) (operand [] u)) s2 (leaves_of (condition e more) (outer u) r) (leaves_of more (behind (outer u) (about e)) r)
+  condition_run e u s2 more hole0 does fits r ts v mt go = took T (expect sign.LeftParen (outer u) (operand [] u)) (operand [] u) ts v (λ q st. refl) mt
+      (λ vs mv. value_run e u sign.RightParen s2 hole0 refl refl does fits _ vs v mv go)
+
+  maybe_run : (x : Option Expr) (u : Use) (close : Sign) (a : Option Expr → State) (more : List Part) → use_hole u ≡ 0 → op_of close ≡ closes → binds close ≡ 0 → starts close ≡ false → same close close ≡ true → ((e : Expr) → close_use u e close ≡ Some (behind (outer u) (about e), a (Some e)))
+      → all_fit (maybe x ++ the_sign close ∷ more) ≡ true → (r : List Leaf) → Goal (either close (outer u) (a None) (operand [] u)) (a x) (leaves_of (maybe x ++ the_sign close ∷ more) (outer u) r) (leaves_of more (maybe_behind (outer u) x) r)
+  maybe_run None u close a more hole0 op bind none self does fits r ts v mt go = took T (either close (outer u) (a None) (operand [] u)) (a None) ts v (λ q st. ap (λ b. cond b (Some (outer u, a None)) (step (operand [] u) (lex (a_sign close) q))) self) mt go
+  maybe_run (Some e) u close a more hole0 op bind none self does fits r ts v mt go =
+      skip T (either close (outer u) (a None) (operand [] u)) (operand [] u) ts (λ t st. ap (λ b. cond b (Some (outer u, a None)) (step (operand [] u) t)) (not_at _ close st none)) (heads e _ _) mt
+      ∙ value_run e u close (a (Some e)) hole0 op bind (does e) (and_parts _ _ fits).0 _ ts v mt go
+
+  maybe_fits : (x : Option Expr) (ps : List Part) → all_fit (maybe x ++ ps) ≡ true → all_fit ps ≡ true
+  maybe_fits None ps h = h
+  maybe_fits (Some e) ps h = (and_parts _ _ h).1
+
+  later_up : (k l : ℕ) (r : List Leaf) → (k ≡ 1 → l ≡ 1) → Later l r → Later k r
+  later_up k l r f h = record { holds = λ e. h.holds (f e) }
+
+  -- ---- statements of one part
+
+  jump_good : (x : Statement) (at : At) (word : Sign) → plain word ≡ true → about_statement x ≡ node at 2 (the_sign word ∷ the_sign sign.Semicolon ∷ []) → (s2 : List Under → At → State)
+      → ((us : List Under) (q : At) → m.on_statement q (a_sign word) word us ≡ Some (suc (inside us), expect sign.Semicolon (suc (inside us)) (s2 us q))) → ((us : List Under) → s2 us at ≡ got x us) → Good x
+  jump_good x at word h is s2 does ends fits = subst (λ s. Claims x s) (sym is) (from_all _ _ (omega arith)
+      (λ us r l ts v mt go. begins us (λ q. expect sign.Semicolon (suc (inside us)) (s2 us q)) word at _ _ h (does us) ts v mt
+        (λ vs mv. took T (expect sign.Semicolon (suc (inside us)) (s2 us at)) (s2 us at) vs v (λ q st. refl) mv (λ xs mx. ap (λ s. run T xs s) (ends us) ∙ go xs mx))))
+
+  declared_good : (d : Declaration) → Good (tree_.Declared d)
+  declared_good d fits = subst (λ s. Claims (tree_.Declared d) s) (sym (told_declared d)) (record {
+      all = λ one. absurd (low d one);
+      item = λ us h r l ts v mt go. declaration_run T d (m.at_block us) (want us) (opens_block us h) (subst (λ (s : Said). s.fits ≡ true) (told_declared d) fits) r ts v (met_as T ts _ _ (ap (λ n. (declared d).leaves n r) (low_entry d (inside us))) mt) go;
+    })
+    where
+      low : (d : Declaration) → 1 ≤ (declared d).level → ⊥
+      low (declaration.Objects at t is) h = omega (arith, h)
+      low (declaration.Function at g n ps) h = omega (arith, h)
+
+      low_entry : (d : Declaration) (n : ℕ) → entry n (declared d) ≡ n
+      low_entry (declaration.Objects at t is) n = refl
+      low_entry (declaration.Function at g n2 ps) n = refl
+
+  evaluate_good : (at : At) (e : Option Expr) → Good (tree_.Evaluate at e)
+  evaluate_good at None fits = subst (λ s. Claims (tree_.Evaluate at None) s) (sym (told_evaluate at None)) (from_all _ _ (omega arith)
+      (λ us r l ts v mt go. begins us (λ q. got (tree_.Evaluate q None) us) sign.Semicolon at _ _ refl (λ q. refl) ts v mt go))
+  evaluate_good at (Some e) fits =
+      let f0 : (is_at at (about e).at && ((about e).fits && true)) ≡ true = subst (λ (s : Said). s.fits ≡ true) (told_evaluate at (Some e)) fits in
+      let p = and_parts (is_at at (about e).at) _ f0 in
+      subst (λ s. Claims (tree_.Evaluate at (Some e)) s) (sym (told_evaluate at (Some e))) (from_all _ _ (omega arith)
+      (λ us r l ts v mt go. skip T (want us) (operand [] (m.evaluate us)) ts (wanted_value us) (heads e _ _) mt
+        ∙ value_run e (m.evaluate us) sign.Semicolon (got (tree_.Evaluate (place_of e) (Some e)) us) refl refl refl refl (and_parts (about e).fits _ p.1).0 r ts v mt
+          (λ vs mv. ap (λ z. run T vs (got (tree_.Evaluate z (Some e)) us)) (sym (placed at e p.0)) ∙ go vs mv)))
+
+  return_good : (at : At) (e : Option Expr) → Good (tree_.Return at e)
+  return_good at e fits = subst (λ s. Claims (tree_.Return at e) s) (sym (told_return at e)) (from_all _ _ (omega arith)
+      (λ us r l ts v mt go. begins us (λ q. either sign.Semicolon (suc (inside us)) (got (tree_.Return q None) us) (operand [] (m.return_ q us))) sign.Return at _ _ refl (λ q. refl) ts v mt
+        (λ vs mv. maybe_run e (m.return_ at us) sign.Semicolon (λ x. got (tree_.Return at x) us) [] refl refl refl refl refl (λ x. refl) (subst (λ (s : Said). s.fits ≡ true) (told_return at e) fits) r vs v mv go)))
+
+  -- ---- statements with a statement
+
+  while_good : (at : At) (e : Expr) (a : Statement) → Good a → Good (tree_.While at e a)
+  while_good at e a ga fits =
+      let p = and_parts (about e).fits _ (subst (λ (s : Said). s.fits ≡ true) (told_while at e a) fits) in
+      let q = part_fit 1 a true p.1 in
+      subst (λ s. Claims (tree_.While at e a) s) (sym (told_while at e a)) (from_all _ _ q.level
+      (λ us r l ts v mt go. begins us (λ z. expect sign.LeftParen (suc (inside us)) (operand [] (m.while_ z us))) sign.While at _ _ refl (λ z. refl) ts v mt
+        (λ vs mv. condition_run e (m.while_ at us) (want (m.in_while at e ∷ us)) (statement_part (about_statement a) ∷ []) refl refl p.0 r vs v mv
+          (λ xs mx. (ga q.fits).all q.level (m.in_while at e ∷ us) r l xs v mx
+            (λ ys my. alike T (got a (m.in_while at e ∷ us)) (got (tree_.While at e a) us) ys r refl (λ t st. refl) my ∙ go ys my)))))
+
+  if_good : (at : At) (e : Expr) (a : Statement) → Good a → Good (tree_.If at e a None)
+  if_good at e a ga fits =
+      let p = and_parts (about e).fits _ (subst (λ (s : Said). s.fits ≡ true) (told_if at e a) fits) in
+      let q = part_fit 1 a true p.1 in
+      subst (λ s. Claims (tree_.If at e a None) s) (sym (told_if at e a)) (from_all _ _ (omega arith)
+      (λ us r l ts v mt go. begins us (λ z. expect sign.LeftParen (suc (inside us)) (operand [] (m.if_ z us))) sign.If at _ _ refl (λ z. refl) ts v mt
+        (λ vs mv. condition_run e (m.if_ at us) (want (m.in_if at e ∷ us)) (statement_part (about_statement a) ∷ []) refl refl p.0 r vs v mv
+          (λ xs mx. (ga q.fits).all q.level (m.in_if at e ∷ us) r (record { holds = λ z. l.holds refl }) xs v mx
+            (λ ys my. alike T (got a (m.in_if at e ∷ us)) (got (tree_.If at e a None) us) ys r refl
+                (λ t st. ap (λ b. cond b (goes (inside (m.in_if at e ∷ us)) (want (m.in_else at e a ∷ us))) (step (got (tree_.If at e a None) us) t)) (ap (λ z. same z sign.Else) st ∙ l.holds refl)) my ∙ go ys my)))))
+
+  if_else_good : (at : At) (e : Expr) (a b : Statement) → Good a → Good b → Good (tree_.If at e a (Some b))
+  if_else_good at e a b ga gb fits =
+      let p = and_parts (about e).fits _ (subst (λ (s : Said). s.fits ≡ true) (told_if_else at e a b) fits) in
+      let q = part_fit 2 a _ p.1 in
+      let o = part_fit 1 b true q.rest in
+      subst (λ s. Claims (tree_.If at e a (Some b)) s) (sym (told_if_else at e a b)) (from_all _ _ o.level
+      (λ us r l ts v mt go. begins us (λ z. expect sign.LeftParen (suc (inside us)) (operand [] (m.if_ z us))) sign.If at _ _ refl (λ z. refl) ts v mt
+        (λ vs mv. condition_run e (m.if_ at us) (want (m.in_if at e ∷ us)) (open_ 2 (about_statement a) ∷ the_sign sign.Else ∷ statement_part (about_statement b) ∷ []) refl refl p.0 r vs v mv
+          (λ xs mx. (ga q.fits).all (omega (arith, q.level)) (m.in_if at e ∷ us) _ (record { holds = λ z. absurd (omega (arith, z, q.level)) }) xs v mx
+            (λ ys my. took T (got a (m.in_if at e ∷ us)) (want (m.in_else at e a ∷ us)) ys v (λ z st. refl) my
+              (λ zs mz. (gb o.fits).all o.level (m.in_else at e a ∷ us) r l zs v mz
+                (λ ws mw. alike T (got b (m.in_else at e a ∷ us)) (got (tree_.If at e a (Some b)) us) ws r refl (λ t st. refl) mw ∙ go ws mw)))))))
+
+  dowhile_good : (at : At) (a : Statement) (e : Expr) → Good a → Good (tree_.DoWhile at a e)
+  dowhile_good at a e ga fits =
+      let q = part_fit 1 a _ (subst (λ (s : Said). s.fits ≡ true) (told_dowhile at a e) fits) in
+      let p = and_parts (about e).fits _ q.rest in
+      subst (λ s. Claims (tree_.DoWhile at a e) s) (sym (told_dowhile at a e)) (from_all _ _ (omega arith)
+      (λ us r l ts v mt go. begins us (λ z. want (m.in_do z ∷ us)) sign.Do at _ _ refl (λ z. refl) ts v mt
+        (λ vs mv. (ga q.fits).all q.level (m.in_do at ∷ us) _ (record { holds = λ z. refl }) vs v mv
+          (λ xs mx. took T (got a (m.in_do at ∷ us)) (expect sign.LeftParen (suc (inside us)) (operand [] (m.do_ at a us))) xs v (λ z st. refl) mx
+            (λ ys my. condition_run e (m.do_ at a us) (expect sign.Semicolon (behind (suc (inside us)) (about e)) (got (tree_.DoWhile at a e) us)) (the_sign sign.Semicolon ∷ []) refl refl p.0 r ys v my
+              (λ zs mz. took T (expect sign.Semicolon (behind (suc (inside us)) (about e)) (got (tree_.DoWhile at a e) us)) (got (tree_.DoWhile at a e) us) zs v (λ z st. refl) mz go))))))
+
+  case_good : (at : At) (e : Expr) (a : Statement) → Good a → Good (tree_.Case at e a)
+  case_good at e a ga fits =
+      let p = fit 2 e _ (subst (λ (s : Said). s.fits ≡ true) (told_case at e a) fits) in
+      let q = part_fit 1 a true p.rest in
+      subst (λ s. Claims (tree_.Case at e a) s) (sym (told_case at e a)) (from_all _ _ q.level
+      (λ us r l ts v mt go. begins us (λ z. operand [] (m.case_ z us)) sign.Case at _ _ refl (λ z. refl) ts v mt
+        (λ vs mv. (complete T e p.fits).all (omega (arith, p.level)) [] (m.case_ at us) p.level _ (follow_none _ _ refl) vs v mv
+          (λ xs mx. took T (have e [] (m.case_ at us)) (want (m.in_case at e ∷ us)) xs v (λ z st. refl) mx
+            (λ ys my. (ga q.fits).all q.level (m.in_case at e ∷ us) r l ys v my
+              (λ zs mz. alike T (got a (m.in_case at e ∷ us)) (got (tree_.Case at e a) us) zs r refl (λ t st. refl) mz ∙ go zs mz))))))
+
+  default_good : (at : At) (a : Statement) → Good a → Good (tree_.Default at a)
+  default_good at a ga fits =
+      let q = part_fit 1 a true (subst (λ (s : Said). s.fits ≡ true) (told_default at a) fits) in
+      subst (λ s. Claims (tree_.Default at a) s) (sym (told_default at a)) (from_all _ _ q.level
+      (λ us r l ts v mt go. begins us (λ z. expect sign.Colon (suc (inside us)) (want (m.in_default z ∷ us))) sign.Default at _ _ refl (λ z. refl) ts v mt
+        (λ xs mx. took T (expect sign.Colon (suc (inside us)) (want (m.in_default at ∷ us))) (want (m.in_default at ∷ us)) xs v (λ z st. refl) mx
+            (λ ys my. (ga q.fits).all q.level (m.in_default at ∷ us) r l ys v my
+              (λ zs mz. alike T (got a (m.in_default at ∷ us)) (got (tree_.Default at a) us) zs r refl (λ t st. refl) mz ∙ go zs mz)))))

@@ -25,8 +25,8 @@ use Rattle.c_tree.specs.declared.syntax.Declaration.TheVariants as declaration
 use Rattle.c_grammar.specs.declared.sign.Sign.{Sign}
 use Rattle.c_grammar.specs.declared.sign.Sign.TheVariants as sign
 use Rattle.c_grammar.specs.Words.{Word, a_name, a_number, a_character, a_sign, sign_of_word, Lexeme}
-use Rattle.c_grammar.specs.Phrases.{Leaf, leaf, Said, Part, sub, stands, is_at, same_place, entry, behind, leaves_of, leaves_at, all_fit, open_, expr, item, piece, node, phrase, each, the_sign, operator}
-use Rattle.c_grammar.specs.Grammar.{about, type, value, maybe, started, condition, constant, statement_part, braces, block, declared, statement, about_statement, returned, called, part, program}
+use Rattle.c_grammar.specs.Phrases.{Leaf, leaf, Said, Part, sub, stands, is_at, same_place, entry, behind, leaves_of, leaves_at, all_fit, open_, expr, item, piece, commas, node, phrase, each, the_sign, operator}
+use Rattle.c_grammar.specs.Grammar.{about, type, value, maybe, started, condition, constant, statement_part, braces, block, declared, statement, about_statement, returned, called, listed, parameter, part, program}
 use Rattle.c_tree.specs.declared.syntax.Start.{Start}
 use Rattle.c_tree.specs.declared.syntax.Start.TheVariants as start
 use Rattle.c_tree.specs.declared.syntax.Statement.{Statement}
@@ -181,7 +181,7 @@ wanted_value us t h = same_cond (is_block us) _ _ (plain_item t.at t.word us (si
 
 -- ---- blocks
 
-after_block : List Under → State
+abbrev after_block : List Under → State
 after_block (m.in_block at ss ∷ us) = got (tree_.Block at ss) us
 after_block (m.in_switch at e ss ∷ us) = got (tree_.Switch at e ss) us
 after_block (m.in_body ps at r n qs ss ∷ us) = m.program (ps ++ external.Defined at r n qs ss ∷ [])
@@ -206,7 +206,6 @@ block_add x (m.in_body ps at r n qs ss ∷ us) h = refl
 block_add x (_ ∷ us) h = absurd cc
 
 close_step : (us : List Under) (p : At) → is_block us ≡ true → step (want us) (lex (a_sign sign.RightBrace) p) ≡ Some (inside us, after_block us)
-unfolding after_block
 close_step [] p h = absurd cc
 close_step (m.in_block at ss ∷ us) p h = refl
 close_step (m.in_switch at e ss ∷ us) p h = refl
@@ -407,3 +406,177 @@ module _ (T : ℕ → Bool) where
         (λ xs mx. took T (expect sign.Colon (suc (inside us)) (want (m.in_default at ∷ us))) (want (m.in_default at ∷ us)) xs v (λ z st. refl) mx
             (λ ys my. (ga q.fits).all q.level (m.in_default at ∷ us) r l ys v my
               (λ zs mz. alike T (got a (m.in_default at ∷ us)) (got (tree_.Default at a) us) zs r refl (λ t st. refl) mz ∙ go zs mz)))))
+
+  started_run : (at : At) (us : List Under) (b : Start) (more : List Part) → all_fit (started b ++ more) ≡ true → (r : List Leaf)
+      → Goal (m.for_first at us) (for_test at b us) (leaves_of (started b ++ more) (suc (inside us)) r) (leaves_of more (start_behind (suc (inside us)) b) r)
+  started_run at us start.Absent more fits r ts v mt go = took T (m.for_first at us) (for_test at start.Absent us) ts v (λ q st. refl) mt go
+  started_run at us (start.Value e) more fits r ts v mt go =
+      skip T (m.for_first at us) (operand [] (m.start_ at us)) ts (λ t st. first_value t (sign_of_word t.word) st) (heads e _ _) mt
+      ∙ value_run e (m.start_ at us) sign.Semicolon (for_test at (start.Value e) us) refl refl refl refl (and_parts _ _ fits).0 _ ts v mt go
+    where
+      first_value : (t : Lexeme) (s : Sign) → starts s ≡ true → m.on_first t.at t.word s at us ≡ m.on_operand t.at t.word [] (m.start_ at us)
+      first_value t sign.Other h = refl
+      first_value t sign.Plus h = refl
+      first_value t sign.Minus h = refl
+      first_value t sign.Tilde h = refl
+      first_value t sign.Exclamation h = refl
+      first_value t sign.Increment h = refl
+      first_value t sign.Decrement h = refl
+      first_value t sign.LeftParen h = refl
+      first_value t _ h = absurd cc
+  started_run at us (start.Declared d) more fits r ts v mt go = declaration_run T d (m.at_start at us) (m.for_first at us) opening (and_parts _ _ fits).0 _ ts v mt go
+    where
+      first_type : (p : At) (x : Sign) (t : TypeWords) → type_of x ≡ Some t → m.on_first p (a_sign x) x at us ≡ Some (suc (inside us), m.declaring p (gives.Value t) (m.at_start at us))
+      first_type p sign.Char t is = ap (λ o. m.on_declaration p sign.Char o (m.at_start at us) None) is
+      first_type p sign.Int t is = ap (λ o. m.on_declaration p sign.Int o (m.at_start at us) None) is
+      first_type p sign.Signed t is = ap (λ o. m.on_declaration p sign.Signed o (m.at_start at us) None) is
+      first_type p sign.Unsigned t is = ap (λ o. m.on_declaration p sign.Unsigned o (m.at_start at us) None) is
+      first_type p _ t is = absurd cc
+
+      opening : Opens (m.for_first at us) (m.at_start at us)
+      opening = record { with_type = λ x t is p. first_type p x t is; with_void = λ p. refl }
+
+  started_fits : (b : Start) (ps : List Part) → all_fit (started b ++ ps) ≡ true → all_fit ps ≡ true
+  started_fits start.Absent ps h = h
+  started_fits (start.Value e) ps h = (and_parts _ _ h).1
+  started_fits (start.Declared d) ps h = (and_parts _ _ h).1
+
+  for_good : (at : At) (b : Start) (t n : Option Expr) (a : Statement) → Good a → Good (tree_.For at b t n a)
+  for_good at b t n a ga fits =
+      let f0 = subst (λ (s : Said). s.fits ≡ true) (told_for at b t n a) fits in
+      let last : List Part = statement_part (about_statement a) ∷ [] in
+      let third : List Part = maybe n ++ the_sign sign.RightParen ∷ last in
+      let f1 = started_fits b (maybe t ++ the_sign sign.Semicolon ∷ third) f0 in
+      let f2 = maybe_fits t (the_sign sign.Semicolon ∷ third) f1 in
+      let q = part_fit 1 a true (maybe_fits n (the_sign sign.RightParen ∷ last) f2) in
+      subst (λ s. Claims (tree_.For at b t n a) s) (sym (told_for at b t n a)) (from_all _ _ q.level
+      (λ us r l ts v mt go. begins us (λ z. expect sign.LeftParen (suc (inside us)) (m.for_first z us)) sign.For at _ _ refl (λ z. refl) ts v mt
+        (λ vs mv. took T (expect sign.LeftParen (suc (inside us)) (m.for_first at us)) (m.for_first at us) vs v (λ z st. refl) mv
+          (λ ws mw. started_run at us b (maybe t ++ the_sign sign.Semicolon ∷ third) f0 r ws v mw
+            (λ xs mx. maybe_run t (m.test_ at b us) sign.Semicolon (λ x. for_next at b x us) third refl refl refl refl refl (λ x. refl) f1 r xs v mx
+              (λ ys my. maybe_run n (m.next_ at b t us) sign.RightParen (λ x. want (m.in_for at b t x ∷ us)) last refl refl refl refl refl (λ x. refl) f2 r ys v my
+                (λ zs mz. (ga q.fits).all q.level (m.in_for at b t n ∷ us) r l zs v mz
+                  (λ os mo. alike T (got a (m.in_for at b t n ∷ us)) (got (tree_.For at b t n a) us) os r refl (λ t st. refl) mo ∙ go os mo))))))))
+
+  -- ---- blocks
+
+  abbrev pub Known : Type 0
+  Known = (x : Statement) × Good x
+
+  abbrev pub trees : List Known → List Statement
+  trees = map (λ a. a.0)
+
+  abbrev closed : List Known → List Part
+  closed xs = each item (map about_statement (trees xs)) ++ the_sign sign.RightBrace ∷ []
+
+  closed_later : (xs : List Known) (l n : ℕ) (r : List Leaf) → Later l (leaves_of (closed xs) n r)
+  closed_later [] l n r = record { holds = λ z. refl }
+  closed_later (x ∷ xs) l n r = record { holds = λ z. no_else _ (stat_heads x.0 _ _) }
+
+  items_run : (us : List Under) → is_block us ≡ true → (xs : List Known) → all_fit (closed xs) ≡ true → (r : List Leaf) → Goal (want us) (after_block (adds (trees xs) us)) (leaves_of (closed xs) (inside us) r) r
+  items_run us h [] fits r ts v mt go = took T (want us) (after_block us) ts v (λ q st. close_step us q h) mt go
+  items_run us h (x ∷ xs) fits r ts v mt go =
+      let p = and_parts (about_statement x.0).fits _ fits in
+      (x.1 p.0).item us h _ (closed_later xs _ _ _) ts v mt
+      (λ vs mv. items_run (add x.0 us) (block_add x.0 us h) xs p.1 r vs v (met_as T vs _ _ (ap (λ n. leaves_of (closed xs) n r) (sym (inside_add x.0 us h))) mv) go)
+
+  block_good : (at : At) (xs : List Known) → Good (tree_.Block at (trees xs))
+  block_good at xs fits =
+      let f0 : ((true && all_fit (closed xs)) && true) ≡ true = (and_parts _ _ (subst (λ (s : Said). s.fits ≡ true) (told_block at (trees xs)) fits)).1 in
+      subst (λ s. Claims (tree_.Block at (trees xs)) s) (sym (told_block at (trees xs))) (from_all _ _ (omega arith)
+      (λ us r l ts v mt go. begins us (λ z. want (m.in_block z [] ∷ us)) sign.LeftBrace at _ _ refl (λ z. refl) ts v mt
+        (λ vs mv. items_run (m.in_block at [] ∷ us) refl xs (and_parts _ _ f0).0 r vs v mv
+          (λ ys my. ap (λ s. run T ys s) (ap after_block (adds_block (trees xs) [] at us)) ∙ go ys my))))
+
+  switch_good : (at : At) (e : Expr) (xs : List Known) → Good (tree_.Switch at e (trees xs))
+  switch_good at e xs fits =
+      let p = and_parts (about e).fits _ (subst (λ (s : Said). s.fits ≡ true) (told_switch at e (trees xs)) fits) in
+      let f0 : ((all_fit (closed xs)) && true) ≡ true = p.1 in
+      subst (λ s. Claims (tree_.Switch at e (trees xs)) s) (sym (told_switch at e (trees xs))) (from_all _ _ (omega arith)
+      (λ us r l ts v mt go. begins us (λ z. expect sign.LeftParen (suc (inside us)) (operand [] (m.switch_ z us))) sign.Switch at _ _ refl (λ z. refl) ts v mt
+        (λ vs mv. condition_run e (m.switch_ at us) (expect sign.LeftBrace (suc (behind (suc (inside us)) (about e))) (want (m.in_switch at e [] ∷ us))) (block (map about_statement (trees xs)) ∷ []) refl refl p.0 r vs v mv
+          (λ ws mw. took T (expect sign.LeftBrace (suc (behind (suc (inside us)) (about e))) (want (m.in_switch at e [] ∷ us))) (want (m.in_switch at e [] ∷ us)) ws v (λ z st. refl) mw
+            (λ xs2 mx. items_run (m.in_switch at e [] ∷ us) refl xs (and_parts _ _ f0).0 r xs2 v mx
+              (λ ys my. ap (λ s. run T ys s) (ap after_block (adds_switch (trees xs) [] at e us)) ∙ go ys my))))))
+
+  pub complete_statement : (x : Statement) → Good x
+  complete_statement = stat_induction Good (record {
+    block_ = block_good;
+    declared_ = declared_good;
+    evaluate_ = evaluate_good;
+    if_ = if_good;
+    if_else = if_else_good;
+    while_ = while_good;
+    dowhile_ = dowhile_good;
+    for_ = for_good;
+    switch_ = switch_good;
+    case_ = case_good;
+    default_ = default_good;
+    break_ = λ at. jump_good (tree_.Break at) at sign.Break refl (told_break at) (λ us q. got (tree_.Break q) us) (λ us q. refl) (λ us. refl);
+    continue_ = λ at. jump_good (tree_.Continue at) at sign.Continue refl (told_continue at) (λ us q. got (tree_.Continue q) us) (λ us q. refl) (λ us. refl);
+    return_ = return_good;
+  })
+
+  -- ---- programs
+
+  opens_top : (ps : List External) → Opens (m.program ps) (m.at_top ps)
+  opens_top ps = record { with_type = λ x t is p. typed x t is p; with_void = λ p. refl }
+    where
+      typed : (x : Sign) (t : TypeWords) → type_of x ≡ Some t → (p : At) → m.on_program p x ps ≡ Some (0, m.declaring p (gives.Value t) (m.at_top ps))
+      typed sign.Char t is p = ap (λ o. m.on_declaration p sign.Char o (m.at_top ps) None) is
+      typed sign.Int t is p = ap (λ o. m.on_declaration p sign.Int o (m.at_top ps) None) is
+      typed sign.Signed t is p = ap (λ o. m.on_declaration p sign.Signed o (m.at_top ps) None) is
+      typed sign.Unsigned t is p = ap (λ o. m.on_declaration p sign.Unsigned o (m.at_top ps) None) is
+      typed _ t is p = absurd cc
+
+  abbrev known : List Statement → List Known
+  known [] = []
+  known (x ∷ xs) = (x, complete_statement x) ∷ known xs
+
+  known_trees : (xs : List Statement) → trees (known xs) ≡ xs
+  known_trees [] = refl
+  known_trees (x ∷ xs) = ap (λ l. x ∷ l) (known_trees xs)
+
+  returned_fits : (g : Return) (ps : List Part) → all_fit (returned g ++ ps) ≡ true → all_fit ps ≡ true
+  returned_fits gives.Void ps h = h
+  returned_fits (gives.Value words.Char) ps h = h
+  returned_fits (gives.Value words.SignedChar) ps h = h
+  returned_fits (gives.Value _) ps h = h
+
+  abbrev bodied : List ℕ → Parameters → List Statement → List Part
+  bodied n qs body = called n qs (block (map about_statement body) ∷ [])
+
+  listed_fits : (qs : Parameters) (ps : List Part) → all_fit (listed qs ++ the_sign sign.RightParen ∷ ps) ≡ true → all_fit ps ≡ true
+  listed_fits parameters.Empty ps h = h
+  listed_fits parameters.Void ps h = h
+  listed_fits (parameters.List []) ps h = absurd cc
+  listed_fits (parameters.List (p ∷ qs)) ps h = behind_list p qs ps h
+    where
+      behind_list : (p : Parameter) (qs : List Parameter) (ps : List Part) → all_fit (commas piece (map parameter (p ∷ qs)) ++ the_sign sign.RightParen ∷ ps) ≡ true → all_fit ps ≡ true
+      behind_list p [] ps h = (and_parts (parameter p).fits _ h).1
+      behind_list p (q ∷ qs) ps h = behind_list q qs ps ((and_parts (parameter p).fits _ h).1)
+
+  external_run : (x : External) (ps : List External) → (part x).fits ≡ true → (r : List Leaf) → Goal (m.program ps) (m.program (ps ++ x ∷ [])) ((part x).leaves 0 r) r
+  external_run (external.Include at) ps fits r ts v mt go = took T (m.program ps) (m.program (ps ++ external.Include at ∷ [])) ts v (λ q st. ap (λ z. goes 0 (m.program (ps ++ external.Include z ∷ []))) (sym st)) mt go
+  external_run (external.Declared d) ps fits r ts v mt go = declaration_run T d (m.at_top ps) (m.program ps) (opens_top ps) fits r ts v mt go
+  external_run (external.Defined at g n qs body) ps fits r ts v mt go =
+      let f1 = (and_parts _ _ fits).1 in
+      let f2 : (all_fit (closed (known body)) && true) ≡ true = subst (λ l. (all_fit (each item (map about_statement l) ++ the_sign sign.RightBrace ∷ []) && true) ≡ true) (sym (known_trees body)) (listed_fits qs _ (returned_fits g (bodied n qs body) f1)) in
+      heading_run T at g n qs (block (map about_statement body) ∷ []) (m.at_top ps) (m.program ps) (opens_top ps) f1 r ts v mt
+      (λ vs mv. took T (header (record { at = at; gives = g; name = n; home = m.at_top ps }) qs) (want (m.in_body ps at g n qs [] ∷ [])) vs v (λ z st. refl) mv
+        (λ ws mw. items_run (m.in_body ps at g n qs [] ∷ []) refl (known body) (and_parts _ _ f2).0 r ws v (met_as T ws _ _ (ap (λ l. leaves_of (each item (map about_statement l) ++ the_sign sign.RightBrace ∷ []) 1 r) (sym (known_trees body))) mw)
+          (λ ys my. ap (λ s. run T ys s) (ap after_block (adds_body (trees (known body)) [] ps at g n qs [] ∙ ap (λ l. m.in_body ps at g n qs l ∷ []) (known_trees body))) ∙ go ys my)))
+
+  parts_run : (xs ps : List External) → all_fit (each piece (map part xs) ++ the_sign sign.End ∷ []) ≡ true → (ts : List Lexeme) → Met T ts (leaves_of (each piece (map part xs) ++ the_sign sign.End ∷ []) 0 []) → run T ts (m.program ps) ≡ Ok (ps ++ xs)
+  parts_run [] ps fits ts mt = took T (m.program ps) (m.finished ps) ts (Ok (ps ++ [])) (λ q st. refl) mt finish
+    where
+      finish : (vs : List Lexeme) → Met T vs [] → run T vs (m.finished ps) ≡ Ok (ps ++ [])
+      finish [] mv = ap (λ l. Ok l) (sym (append-nil ps))
+      finish (t ∷ vs) mv = absurd mv.meets
+  parts_run (x ∷ xs) ps fits ts mt =
+      let p = and_parts (part x).fits _ fits in
+      external_run x ps p.0 _ ts (Ok (ps ++ x ∷ xs)) mt (λ vs mv. parts_run xs (ps ++ x ∷ []) p.1 vs mv ∙ ap (λ l. Ok l) (append_assoc ps (x ∷ []) xs))
+
+  -- the words of a program lead to its parts
+  pub complete_program : (p : Syntax) (ts : List Lexeme) → (program p).fits ≡ true → Met T ts ((program p).leaves 0 []) → run T ts (m.program []) ≡ Ok p.parts
+  complete_program p ts fits mt = parts_run p.parts [] fits ts mt

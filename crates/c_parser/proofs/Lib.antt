@@ -5,3 +5,5 @@ mod ExprRuns
 mod ExprComplete
 mod DeclComplete
 mod StatComplete
+mod Text
+mod Fill

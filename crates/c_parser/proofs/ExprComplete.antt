@@ -204,14 +204,14 @@ module _ (T : ℕ → Bool) where
       let p = fit 13 a true (fits_behind t (subst (λ (s : Said). s.fits ≡ true) (said_cast at t a) fits)) in
       subst (λ s. Claims (tree.Cast at t a) s) (sym (said_cast at t a)) (from_all _ _ (omega arith)
       (λ fs u h r f ts w mt go. took T (operand fs u) (opened at fs u) ts w (λ q st. ap (λ z. goes (first fs u) (opened z fs u)) (sym st)) mt
-        (λ vs mv. typed T None (opened at fs u) (λ y. casting at y fs u) (first fs u) (typing fs u) t _ vs w (met_as T vs _ _ (type_of_leaves T t _ _ _) mv)
+        (λ vs mv. typed T None (opened at fs u) (λ y. casting at y fs u) (first fs u) (typing fs u h) t _ vs w (met_as T vs _ _ (type_of_leaves T t _ _ _) mv)
           (λ xs mx. took T (casting at t fs u) (operand (m.cast at t ∷ fs) u) xs w (λ z st. ap (λ o. m.on_casting at t sign.RightParen o fs u) (no_more t)) mx
             (λ ys my. (ga p.fits).all (omega (arith, p.level)) (m.cast at t ∷ fs) u p.level r (follow_up 13 _ r p.level f) ys w my
               (λ zs mz. filled a (m.cast at t) fs u 13 zs r refl (omega arith) (omega arith) (f.cast (omega arith)) (λ s more. refl) mz ∙ go zs mz))))))
     where
-      typing : (fs : List Frame) (u : Use) → Typing T None (opened at fs u) (λ y. casting at y fs u) (first fs u)
-      typing fs u = record {
-        begins = λ x y is q st. ap (λ o. m.on_opened at q (a_sign x) o fs u) is;
+      typing : (fs : List Frame) (u : Use) → hole fs u ≤ 13 → Typing T None (opened at fs u) (λ y. casting at y fs u) (first fs u)
+      typing fs u h = record {
+        begins = λ x y is q st. ap (λ o. m.on_opened at q (a_sign x) o fs u) is ∙ ap (λ b. cond b (goes (first fs u) (casting at y fs u)) None) (le-leb _ _ h);
         extends = λ y x y2 is q. ap (λ o. m.on_casting at y x o fs u) is;
       }
 

@@ -7,3 +7,4 @@ mod DeclComplete
 mod StatComplete
 mod Text
 mod Fill
+mod Reached

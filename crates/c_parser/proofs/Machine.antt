@@ -422,7 +422,7 @@ on_operand at (a_sign s) fs u = prefix at s fs u
 
 abbrev pub on_opened : At → At → Word → Option TypeWords → List Frame → Use → Next
 on_opened at t w None fs u = on_operand t w (paren at ∷ fs) u
-on_opened at t w (Some ty) fs u = goes (first fs u) (casting at ty fs u)
+on_opened at t w (Some ty) fs u = cond (nat_le (hole fs u) 13) (goes (first fs u) (casting at ty fs u)) None
 
 abbrev pub on_casting : At → TypeWords → Sign → Option TypeWords → List Frame → Use → Next
 on_casting at ty s (Some more) fs u = goes (first fs u) (casting at more fs u)

@@ -17,7 +17,7 @@ use Rattle.c_grammar.specs.declared.sign.Sign.{Sign}
 use Rattle.c_grammar.specs.declared.sign.Sign.TheVariants as sign
 use Rattle.c_grammar.specs.Words.{Word, a_name, a_sign, Lexeme}
 use Rattle.c_grammar.specs.Operators.{precedence, binary_sign, assign_sign, unary_sign, step_sign}
-use Rattle.c_grammar.specs.Phrases.{Leaf, leaf, Said, Part, the, mark, sub, open_, expr, item, piece, stands, entry, behind, leaves_of, leaves_at, all_fit, the_sign, operator, name, each}
+use Rattle.c_grammar.specs.Phrases.{Leaf, leaf, Said, Part, the, mark, sub, open_, expr, item, piece, some, commas, stands, entry, behind, leaves_of, leaves_at, all_fit, the_sign, operator, name, each}
 use Rattle.c_grammar.specs.Grammar.{about, type, assign, constant, value, maybe, started, condition, sized, declarator, returned, parameter, listed, called, about_statement, part}
 use Rattle.c_reading.specs.Trees.{place_of}
 use Rattle.c_parser.proofs.Machine.{Frame, unary, before, cast, binary, question, colon, comma, paren, element, arguments, Under, in_block, in_if, in_else, in_while, in_do, in_for, in_switch, in_case, in_default, in_body, Home, at_top, at_block, at_start, Naming, Heading, Use, evaluate, if_, while_, switch_, start_, return_, case_, do_, test_, next_, size_, value_, list_, home_nesting, start_behind, maybe_behind, inside, outer, use_hole, hole, opens, entered, spot, first}
@@ -45,7 +45,7 @@ begun_under (in_for at b t n) = the_sign sign.For ∷ the_sign sign.LeftParen �
 begun_under (in_switch at e ss) = the_sign sign.Switch ∷ condition e []
 begun_under (in_case at e) = the_sign sign.Case ∷ constant e ∷ the_sign sign.Colon ∷ []
 begun_under (in_default at) = the_sign sign.Default ∷ the_sign sign.Colon ∷ []
-begun_under (in_body ps at r n qs ss) = returned r ++ called n qs []
+begun_under (in_body ps at r n qs ss) = []
 
 abbrev pub items : List Statement → List Part
 items ss = the_sign sign.LeftBrace ∷ each item (map about_statement ss)
@@ -64,7 +64,7 @@ text_unders (in_for at b t n ∷ us) r = text_unders us (leaves_at at (begun_und
 text_unders (in_switch at e ss ∷ us) r = text_unders us (leaves_at at (begun_under (in_switch at e ss)) (suc (inside us)) (leaves_of (items ss) (suc (behind (suc (inside us)) (about e))) r))
 text_unders (in_case at e ∷ us) r = text_unders us (leaves_at at (begun_under (in_case at e)) (suc (inside us)) r)
 text_unders (in_default at ∷ us) r = text_unders us (leaves_at at (begun_under (in_default at)) (suc (inside us)) r)
-text_unders (in_body ps at g n qs ss ∷ us) r = leaves_of (tops ps) 0 (leaves_at at (returned g ++ called n qs []) 0 (leaves_of (items ss) 1 r))
+text_unders (in_body ps at g n qs ss ∷ us) r = leaves_of (tops ps) 0 (leaves_at at (returned g) 0 (leaf (a_name n) None 0 ∷ leaf (a_sign sign.LeftParen) None 0 ∷ leaves_of (listed qs) 0 (leaf (a_sign sign.RightParen) None 0 ∷ leaves_of (items ss) 1 r)))
 
 abbrev pub ok_items : List Statement → Type 0
 ok_items ss = all_fit (each item (map about_statement ss)) ≡ true
@@ -73,7 +73,7 @@ abbrev pub ok_unders : List Under → Type 0
 ok_unders [] = ⊥
 ok_unders (in_block at ss ∷ us) = ok_items ss × ok_unders us
 ok_unders (in_switch at e ss ∷ us) = (all_fit (begun_under (in_switch at e ss)) ≡ true) × ok_items ss × ok_unders us
-ok_unders (in_body ps at g n qs ss ∷ us) = (all_fit (tops ps) ≡ true) × (all_fit (returned g ++ called n qs []) ≡ true) × ok_items ss
+ok_unders (in_body ps at g n qs ss ∷ us) = (all_fit (tops ps) ≡ true) × (all_fit (listed qs) ≡ true) × ok_items ss
 ok_unders (f ∷ us) = (all_fit (begun_under f) ≡ true) × ok_unders us
 
 -- ---- declarations
@@ -88,14 +88,24 @@ ok_home (at_top ps) = all_fit (tops ps) ≡ true
 ok_home (at_block us) = ok_unders us × (m.is_block us ≡ true)
 ok_home (at_start at us) = ok_unders us
 
-abbrev pub objects : Naming → List Part
-objects i = type i.words ++ trail (λ x. piece (declarator x)) i.done
+abbrev pub object : Item → Part
+object x = piece (declarator x)
+
+abbrev pub text_type : At → TypeWords → Home → List Leaf → List Leaf
+text_type at t h r = text_home h (leaves_at at (type t) (home_nesting h) r)
 
 abbrev pub text_naming : Naming → List Leaf → List Leaf
-text_naming i r = text_home i.home (leaves_at i.at (objects i) (home_nesting i.home) (leaf (a_name i.name) (Some i.item_at) (home_nesting i.home) ∷ r))
+text_naming i r = text_type i.at i.words i.home (leaves_of (trail object i.done) (home_nesting i.home) (leaf (a_name i.name) (Some i.item_at) (home_nesting i.home) ∷ r))
+
+abbrev pub a_parameter : Parameter → Part
+a_parameter x = piece (parameter x)
+
+-- up to the opening parenthesis
+abbrev pub text_heading : Heading → List Leaf → List Leaf
+text_heading k r = text_home k.home (leaves_at k.at (returned k.gives) (home_nesting k.home) (leaf (a_name k.name) None (home_nesting k.home) ∷ leaf (a_sign sign.LeftParen) None (home_nesting k.home) ∷ r))
 
 abbrev pub ok_naming : Naming → Type 0
-ok_naming i = ok_home i.home × (all_fit (trail (λ x. piece (declarator x)) i.done) ≡ true)
+ok_naming i = ok_home i.home × (all_fit (trail object i.done) ≡ true)
 
 -- ---- uses
 

@@ -8,3 +8,4 @@ mod StatComplete
 mod Text
 mod Fill
 mod Reached
+mod Steps

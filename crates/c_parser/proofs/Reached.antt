@@ -108,21 +108,21 @@ joined_signs words.Unsigned sign.Char t2 e = let f : words.UnsignedChar ≡ t2 =
 joined_signs words.Unsigned sign.Int t2 e = let f : words.UnsignedInt ≡ t2 = cc in ap type_signs (sym f)
 joined_signs _ _ t2 e = absurd cc
 
-joined_sign : (t : TypeWords) (x : Sign) (t2 : TypeWords) → joined t x ≡ Some t2 → same x sign.Other ≡ false
+pub joined_sign : (t : TypeWords) (x : Sign) (t2 : TypeWords) → joined t x ≡ Some t2 → same x sign.Other ≡ false
 joined_sign t sign.Other t2 e = absurd (none (sym (joined_other t) ∙ e))
   where
     none : None ≡ Some t2 → ⊥
     none h = absurd cc
 joined_sign t x t2 e = refl
 
-type_sign : (x : Sign) (t : TypeWords) → type_of x ≡ Some t → type t ≡ the_sign x ∷ []
+pub type_sign : (x : Sign) (t : TypeWords) → type_of x ≡ Some t → type t ≡ the_sign x ∷ []
 type_sign sign.Char t e = let f : words.Char ≡ t = cc in ap type (sym f)
 type_sign sign.Int t e = let f : words.Int ≡ t = cc in ap type (sym f)
 type_sign sign.Signed t e = let f : words.Signed ≡ t = cc in ap type (sym f)
 type_sign sign.Unsigned t e = let f : words.Unsigned ≡ t = cc in ap type (sym f)
 type_sign _ t e = absurd cc
 
-type_no_other : (x : Sign) (t : TypeWords) → type_of x ≡ Some t → same x sign.Other ≡ false
+pub type_no_other : (x : Sign) (t : TypeWords) → type_of x ≡ Some t → same x sign.Other ≡ false
 type_no_other sign.Other t e = absurd cc
 type_no_other x t e = refl
 
@@ -130,10 +130,10 @@ signs_snoc : (ss : List Sign) (x : Sign) (n : ℕ) (r : List Leaf) → leaves_of
 signs_snoc [] x n r = refl
 signs_snoc (y ∷ ss) x n r = ap (λ l. leaf (a_sign y) None n ∷ l) (signs_snoc ss x n r)
 
-type_snoc : (t : TypeWords) (x : Sign) (t2 : TypeWords) (n : ℕ) (r : List Leaf) → joined t x ≡ Some t2 → leaves_of (type t2) n r ≡ leaves_of (type t) n (leaf (a_sign x) None n ∷ r)
+pub type_snoc : (t : TypeWords) (x : Sign) (t2 : TypeWords) (n : ℕ) (r : List Leaf) → joined t x ≡ Some t2 → leaves_of (type t2) n r ≡ leaves_of (type t) n (leaf (a_sign x) None n ∷ r)
 type_snoc t x t2 n r e = ap (λ ss. leaves_of (signs ss) n r) (joined_signs t x t2 e) ∙ signs_snoc (type_signs t) x n r
 
-type_at_snoc : (at : At) (t : TypeWords) (x : Sign) (t2 : TypeWords) (n : ℕ) (r : List Leaf) → joined t x ≡ Some t2 → leaves_at at (type t2) n r ≡ leaves_at at (type t) n (leaf (a_sign x) None n ∷ r)
+pub type_at_snoc : (at : At) (t : TypeWords) (x : Sign) (t2 : TypeWords) (n : ℕ) (r : List Leaf) → joined t x ≡ Some t2 → leaves_at at (type t2) n r ≡ leaves_at at (type t) n (leaf (a_sign x) None n ∷ r)
 type_at_snoc at words.Char x t2 n r e = ap (λ ss. leaves_at at (signs ss) n r) (joined_signs words.Char x t2 e)
 type_at_snoc at words.Int x t2 n r e = ap (λ ss. leaves_at at (signs ss) n r) (joined_signs words.Int x t2 e)
 type_at_snoc at words.Signed x t2 n r e = ap (λ ss. leaves_at at (signs ss) n r) (joined_signs words.Signed x t2 e)
@@ -189,16 +189,16 @@ each_items f (x ∷ xs) ps n r = ap (λ l. (f x).leaves (entry n (f x)) l) (each
 pub tops_snoc : (ps : List External) (x : External) (r : List Leaf) → leaves_of (tops (ps ++ x ∷ [])) 0 r ≡ leaves_of (tops ps) 0 ((part x).leaves 0 r)
 tops_snoc ps x r = ap (λ l. leaves_of l 0 r) (each_snoc piece part ps x) ∙ each_pieces part ps (piece (part x) ∷ []) 0 r
 
-tops_fit : (ps : List External) (x : External) → all_fit (tops ps) ≡ true → (part x).fits ≡ true → all_fit (tops (ps ++ x ∷ [])) ≡ true
+pub tops_fit : (ps : List External) (x : External) → all_fit (tops ps) ≡ true → (part x).fits ≡ true → all_fit (tops (ps ++ x ∷ [])) ≡ true
 tops_fit ps x h k = ap all_fit (each_snoc piece part ps x) ∙ fit_append (tops ps) (piece (part x) ∷ []) h (and_from _ _ k refl)
 
 abbrev block_items : List Statement → List Part
 block_items ss = each item (map about_statement ss)
 
-items_snoc : (ss : List Statement) (x : Statement) (n : ℕ) (r : List Leaf) → leaves_of (block_items (ss ++ x ∷ [])) n r ≡ leaves_of (block_items ss) n ((about_statement x).leaves (entry n (about_statement x)) r)
+pub items_snoc : (ss : List Statement) (x : Statement) (n : ℕ) (r : List Leaf) → leaves_of (block_items (ss ++ x ∷ [])) n r ≡ leaves_of (block_items ss) n ((about_statement x).leaves (entry n (about_statement x)) r)
 items_snoc ss x n r = ap (λ l. leaves_of l n r) (each_snoc item about_statement ss x) ∙ each_items about_statement ss (item (about_statement x) ∷ []) n r
 
-items_fit : (ss : List Statement) (x : Statement) → all_fit (block_items ss) ≡ true → (about_statement x).fits ≡ true → all_fit (block_items (ss ++ x ∷ [])) ≡ true
+pub items_fit : (ss : List Statement) (x : Statement) → all_fit (block_items ss) ≡ true → (about_statement x).fits ≡ true → all_fit (block_items (ss ++ x ∷ [])) ≡ true
 items_fit ss x h k = ap all_fit (each_snoc item about_statement ss x) ∙ fit_append (block_items ss) (item (about_statement x) ∷ []) h (and_from _ _ k refl)
 
 -- ---- what is reached

@@ -29,7 +29,7 @@ use Rattle.c_grammar.specs.declared.sign.Sign.TheVariants as sign
 use Rattle.c_grammar.specs.Words.{Word, a_name, a_number, a_character, a_sign, sign_of_word, Lexeme}
 use Rattle.c_grammar.specs.Operators.{precedence, binary_sign, assign_sign, unary_sign, step_sign, type_signs}
 use Rattle.c_grammar.specs.Phrases as m2
-use Rattle.c_grammar.specs.Phrases.{name, some, Leaf, leaf, Said, Part, sub, stands, is_at, same_place, entry, behind, leaves_of, leaves_at, all_fit, open_, expr, item, piece, commas, node, phrase, each, the_sign, operator}
+use Rattle.c_grammar.specs.Phrases.{begins_at, name, some, Leaf, leaf, Said, Part, sub, stands, is_at, same_place, entry, behind, leaves_of, leaves_at, all_fit, open_, expr, item, piece, commas, node, phrase, each, the_sign, operator}
 use Rattle.c_grammar.specs.Grammar.{sized, initialised, last_comma, declarator, maybe_name, assign, signs, about, type, value, maybe, started, condition, constant, statement_part, braces, block, declared, statement, about_statement, returned, called, listed, parameter, part, program}
 use Rattle.c_tree.specs.declared.syntax.Start.{Start}
 use Rattle.c_tree.specs.declared.syntax.Start.TheVariants as start
@@ -276,3 +276,140 @@ module _ (xs : Taken) (t : Lexeme) where
           lit_ok (tree.After (place_of e) e o) _ fs u (said_after (place_of e) e o) (omega arith) (and_from _ _ (at_self e) (and_from _ _ (stands_it 15 (about e) l p.1.fits) refl)) p.1.frames)
       go m.commas w2 nm h l = (none_at _ (text_frames (m.comma e ∷ fs) u) sign.Comma _ w2 nm p.0 (λ r. ap (λ b. text_frames fs u ((about e).leaves (cond b (entry (spot fs u) (about e)) (first fs u)) (leaf (a_sign sign.Comma) None (behind (spot fs u) (about e)) ∷ r))) (sym (hole_low fs u (omega (arith, h))))), (and_from _ _ p.1.fits refl, h, p.1.frames))
       go m.closes w2 nm h l = tt
+
+  -- ---- the ends of objects
+
+  objects_fit : (at : At) (ty : TypeWords) (is : List Item) → all_fit (some is ∷ commas piece (map declarator is)) ≡ true → (declared (declaration.Objects at ty is)).fits ≡ true
+  objects_fit at ty is h = head ty _ (fit_append (type ty) _ (type_fit ty) (last is h))
+    where
+      type_fit : (ty : TypeWords) → all_fit (type ty) ≡ true
+      type_fit words.Char = refl
+      type_fit _ = refl
+
+      last : (is : List Item) → all_fit (some is ∷ commas piece (map declarator is)) ≡ true → all_fit (some is ∷ (commas piece (map declarator is) ++ the_sign sign.Semicolon ∷ [])) ≡ true
+      last [] h = absurd cc
+      last (i ∷ is) h = fit_append (commas piece (map declarator (i ∷ is))) (the_sign sign.Semicolon ∷ []) h refl
+
+      head : (ty : TypeWords) (ps : List Part) → all_fit (type ty ++ ps) ≡ true → (begins_at at (type ty ++ ps) && all_fit (type ty ++ ps)) ≡ true
+      head words.Char ps h = h
+      head words.SignedChar ps h = h
+      head words.CharSigned ps h = h
+      head words.UnsignedChar ps h = h
+      head words.CharUnsigned ps h = h
+      head words.Int ps h = h
+      head words.Signed ps h = h
+      head words.SignedInt ps h = h
+      head words.IntSigned ps h = h
+      head words.Unsigned ps h = h
+      head words.UnsignedInt ps h = h
+      head words.IntUnsigned ps h = h
+
+  ended_reached : (at : At) (ty : TypeWords) (is : List Item) (h : Home) (s : Sign) → sign_of_word t.word ≡ s → Reached xs (m.item_ended at ty is h) → Stepped xs t (m.on_ended at ty is h s)
+  ended_reached at ty [] h s e p = absurd (none p.1)
+    where
+      none : all_fit (some {A = Item} [] ∷ []) ≡ true → ⊥
+      none x = absurd cc
+  ended_reached at ty (i ∷ is) h sign.Comma e p = (none_at _ (λ r. text_type at ty h (leaves_of (trail object (i ∷ is)) (home_nesting h) r)) sign.Comma _ e refl p.0 (λ r. ap (λ l. text_type at ty h l) (comma_trail declarator i is (home_nesting h) r)), comma_trail_fit declarator i is p.1, p.2)
+  ended_reached at ty (i ∷ is) h sign.Semicolon e p = conclude_reached (xs ++ (t, home_nesting h) ∷ []) h (declaration.Objects at ty (i ∷ is))
+      (none_at _ (λ r. text_home h ((declared (declaration.Objects at ty (i ∷ is))).leaves (home_nesting h) r)) sign.Semicolon _ e refl p.0 (λ r. ap (λ l. text_home h l) (type_at_then at ty _ (home_nesting h) r ∙ ap (λ l. leaves_at at (type ty) (home_nesting h) l) (comma_pieces declarator (i ∷ is) (the_sign sign.Semicolon ∷ []) (home_nesting h) r))))
+      (objects_fit at ty (i ∷ is) p.1) p.2
+  ended_reached at ty (i ∷ is) h _ e p = tt
+
+  item_end_step : (i : Naming) (z : Size) (v : Initialiser) (s : Sign) → sign_of_word t.word ≡ s → Pre xs (λ r. text_naming i (leaves_of (sized z) (home_nesting i.home) (leaves_of (initialised v) (home_nesting i.home) r))) → all_fit (sized z) ≡ true → all_fit (initialised v) ≡ true → ok_naming i → Stepped xs t (m.on_item_end i z v s)
+  item_end_step i z v s e p fz fv ok = ended_reached i.at i.words (i.done ++ item_of i z v ∷ []) i.home s e (item_end_reached xs i z v p fz fv ok)
+
+  -- ---- the ends of expressions
+
+  -- the values of a list, and a comma
+  value_after_reached : (n : ℕ) (i : Naming) (z : Size) (es : List Expr) (e : Expr) → Pre (xs ++ (t, n) ∷ []) (text_use (m.list_ i z (es ++ e ∷ []))) → ok_use (m.list_ i z (es ++ e ∷ [])) → Reached (xs ++ (t, n) ∷ []) (value_after i z (es ++ e ∷ []))
+  value_after_reached n i z es e p ok = ((λ q. item_end_reached (signed (xs ++ (t, n) ∷ []) sign.RightBrace _ q) i z (initialiser.List (es ++ e ∷ []) true)
+      (by_sign (xs ++ (t, n) ∷ []) (text_use (m.list_ i z (es ++ e ∷ []))) _ sign.RightBrace _ q p (λ r. ap (λ l. text_naming i (leaves_of (sized z) (home_nesting i.home) l)) (listed_text es r))) ok.0 (listed_fit es ok.1) ok.2), (p, ok))
+    where
+      listed_text : (es : List Expr) (r : List Leaf) → leaves_of (initialised (initialiser.List (es ++ e ∷ []) true)) (home_nesting i.home) r
+          ≡ leaf (a_sign sign.Assign) None (home_nesting i.home) ∷ leaf (a_sign sign.LeftBrace) None (home_nesting i.home) ∷ leaves_of (trail argument (es ++ e ∷ [])) (home_nesting i.home) (leaf (a_sign sign.RightBrace) None (home_nesting i.home) ∷ r)
+      listed_text [] r = refl
+      listed_text (x ∷ es) r = ap (λ l. leaf (a_sign sign.Assign) None (home_nesting i.home) ∷ leaf (a_sign sign.LeftBrace) None (home_nesting i.home) ∷ l) (values_trail x (es ++ e ∷ []) (the_sign sign.RightBrace ∷ []) (home_nesting i.home) r)
+
+      listed_fit : (es : List Expr) → all_fit (trail argument (es ++ e ∷ [])) ≡ true → all_fit (initialised (initialiser.List (es ++ e ∷ []) true)) ≡ true
+      listed_fit [] h = h
+      listed_fit (x ∷ es) h = values_fit x (es ++ e ∷ []) h
+
+  last_value : (i : Naming) (z : Size) (es : List Expr) (e : Expr) (r : List Leaf) → leaves_of (initialised (initialiser.List (es ++ e ∷ []) false)) (home_nesting i.home) r
+      ≡ leaf (a_sign sign.Assign) None (home_nesting i.home) ∷ leaf (a_sign sign.LeftBrace) None (home_nesting i.home) ∷ leaves_of (trail argument es) (home_nesting i.home) ((about e).leaves (suc (home_nesting i.home)) (leaf (a_sign sign.RightBrace) None (home_nesting i.home) ∷ r))
+  last_value i z es e r = some_list es ∙ ap (λ l. leaf (a_sign sign.Assign) None (home_nesting i.home) ∷ leaf (a_sign sign.LeftBrace) None (home_nesting i.home) ∷ l)
+      (ap (λ ps. leaves_of ps (home_nesting i.home) r) (trail_last argument about assign (λ x. refl) es e (the_sign sign.RightBrace ∷ [])) ∙ trail_leaves about 1 es (argument e ∷ the_sign sign.RightBrace ∷ []) (home_nesting i.home) r)
+    where
+      some_list : (es : List Expr) → leaves_of (initialised (initialiser.List (es ++ e ∷ []) false)) (home_nesting i.home) r ≡ leaf (a_sign sign.Assign) None (home_nesting i.home) ∷ leaf (a_sign sign.LeftBrace) None (home_nesting i.home) ∷ leaves_of (commas assign (map about (es ++ e ∷ [])) ++ the_sign sign.RightBrace ∷ []) (home_nesting i.home) r
+      some_list [] = refl
+      some_list (x ∷ es) = refl
+
+  last_value_fit : (es : List Expr) (e : Expr) → all_fit (trail argument es) ≡ true → stands 1 (about e) ≡ true → all_fit (initialised (initialiser.List (es ++ e ∷ []) false)) ≡ true
+  last_value_fit es e h k = some_list es (ap all_fit (trail_last argument about assign (λ x. refl) es e (the_sign sign.RightBrace ∷ [])) ∙ fit_append (trail argument es) (argument e ∷ the_sign sign.RightBrace ∷ []) h (and_from _ _ k refl))
+    where
+      some_list : (es : List Expr) → all_fit (commas assign (map about (es ++ e ∷ [])) ++ the_sign sign.RightBrace ∷ []) ≡ true → all_fit (initialised (initialiser.List (es ++ e ∷ []) false)) ≡ true
+      some_list [] h = h
+      some_list (x ∷ es) h = h
+
+  for_value : (at : At) (us : List Under) (b : Start) (e : Expr) (r : List Leaf) → text_use (m.next_ at b (Some e) us) r ≡ for_text at us (started b) ((about e).leaves (entry (start_behind (suc (inside us)) b) (about e)) (leaf (a_sign sign.Semicolon) None (behind (start_behind (suc (inside us)) b) (about e)) ∷ r))
+  for_value at us b e r = for_parts at us b _ r
+
+  for_last : (at : At) (us : List Under) (b : Start) (x : Option Expr) (e : Expr) (r : List Leaf) → text_unders (m.in_for at b x (Some e) ∷ us) r
+      ≡ text_use (m.next_ at b x us) ((about e).leaves (entry (maybe_behind (start_behind (suc (inside us)) b) x) (about e)) (leaf (a_sign sign.RightParen) None (behind (maybe_behind (start_behind (suc (inside us)) b) x) (about e)) ∷ r))
+  for_last at us b x e r = for_parts at us b _ r ∙ ap (λ l. for_text at us (started b) l) (maybe_then x _ _ r) ∙ sym (for_parts at us b _ _ ∙ ap (λ l. for_text at us (started b) l) (maybe_then x _ _ _))
+
+  use_reached : (u : Use) (e : Expr) (s : Sign) → sign_of_word t.word ≡ s → Reached xs (have e [] u) → Stepped xs t (close_use u e s)
+  use_reached (m.evaluate us) e sign.Semicolon w p = (none_at _ (Stat_text (tree_.Evaluate (place_of e) (Some e)) us) sign.Semicolon _ w refl p.0 (λ r. ap (λ (s : Said). text_unders us (s.leaves (suc (inside us)) r)) (told_evaluate (place_of e) (Some e))), p.1.frames,
+      ap (λ (s : Said). stands 2 s) (told_evaluate (place_of e) (Some e)) ∙ and_from _ _ (at_self e) (and_from _ _ p.1.fits refl))
+  use_reached (m.if_ at us) e sign.RightParen w p = (none_at _ (text_unders (m.in_if at e ∷ us)) sign.RightParen _ w refl p.0 (λ r. refl), (and_from _ _ p.1.fits refl, p.1.frames))
+  use_reached (m.while_ at us) e sign.RightParen w p = (none_at _ (text_unders (m.in_while at e ∷ us)) sign.RightParen _ w refl p.0 (λ r. refl), (and_from _ _ p.1.fits refl, p.1.frames))
+  use_reached (m.switch_ at us) e sign.RightParen w p = λ q. (by_sign (xs ++ (t, behind (suc (inside us)) (about e)) ∷ []) (λ r. text_unders us (leaves_at at (the_sign sign.Switch ∷ condition e []) (suc (inside us)) r)) (text_unders (m.in_switch at e [] ∷ us)) sign.LeftBrace _ q
+      (none_at _ (λ r. text_unders us (leaves_at at (the_sign sign.Switch ∷ condition e []) (suc (inside us)) r)) sign.RightParen _ w refl p.0 (λ r. refl)) (λ r. refl), (and_from _ _ p.1.fits refl, refl, p.1.frames))
+  use_reached (m.start_ at us) e sign.Semicolon w p = test_reached (xs ++ (t, behind (suc (inside us)) (about e)) ∷ []) at (start.Value e) us (none_at _ (for_text at us (started (start.Value e))) sign.Semicolon _ w refl p.0 (λ r. refl)) (and_from _ _ p.1.fits refl) p.1.frames
+  use_reached (m.return_ at us) e sign.Semicolon w p = (none_at _ (Stat_text (tree_.Return at (Some e)) us) sign.Semicolon _ w refl p.0 (λ r. ap (λ (s : Said). text_unders us (s.leaves (suc (inside us)) r)) (told_return at (Some e))), p.1.frames, ap (λ (s : Said). stands 2 s) (told_return at (Some e)) ∙ and_from _ _ p.1.fits refl)
+  use_reached (m.case_ at us) e sign.Colon w p = (none_at _ (text_unders (m.in_case at e ∷ us)) sign.Colon _ w refl p.0 (λ r. refl), (and_from _ _ (stands_it 2 (about e) p.1.level p.1.fits) refl, p.1.frames))
+  use_reached (m.do_ at x us) e sign.RightParen w p = λ q. (by_sign (xs ++ (t, behind (suc (inside us)) (about e)) ∷ []) (λ r. text_unders us (leaves_at at (the_sign sign.Do ∷ open_ 1 (about_statement x) ∷ the_sign sign.While ∷ condition e []) (suc (inside us)) r)) (Stat_text (tree_.DoWhile at x e) us) sign.Semicolon _ q
+      (none_at _ _ sign.RightParen _ w refl p.0 (λ r. refl)) (λ r. ap (λ (s : Said). text_unders us (s.leaves (suc (inside us)) r)) (told_dowhile at x e)), p.1.frames.1, ap (λ (s : Said). stands 2 s) (told_dowhile at x e) ∙ and_from _ _ p.1.frames.0 (and_from _ _ p.1.fits refl))
+  use_reached (m.test_ at b us) e sign.Semicolon w p = next_reached (xs ++ (t, behind (start_behind (suc (inside us)) b) (about e)) ∷ []) at b (Some e) us (none_at _ (text_use (m.next_ at b (Some e) us)) sign.Semicolon _ w refl p.0 (for_value at us b e)) p.1.frames.0 (and_from _ _ p.1.fits refl) p.1.frames.1
+  use_reached (m.next_ at b x us) e sign.RightParen w p = (none_at _ (text_unders (m.in_for at b x (Some e) ∷ us)) sign.RightParen _ w refl p.0 (for_last at us b x e), (fit_append (started b) _ p.1.frames.0 (fit_append (maybe x) _ p.1.frames.1 (and_from _ _ p.1.fits refl)), p.1.frames.2))
+  use_reached (m.size_ i) e sign.RightBracket w p = (none_at _ (λ r. text_naming i (leaves_of (sized (size.Given e)) (home_nesting i.home) r)) sign.RightBracket _ w refl p.0 (λ r. refl), and_from _ _ (stands_it 2 (about e) p.1.level p.1.fits) refl, p.1.frames)
+  use_reached (m.value_ i z) e s w p = item_end_step i z (initialiser.Value e) s w p.0 p.1.frames.0 (and_from _ _ (stands_it 1 (about e) p.1.level p.1.fits) refl) p.1.frames.1
+  use_reached (m.list_ i z es) e sign.Comma w p = value_after_reached (home_nesting i.home) i z es e
+      (none_at _ (text_use (m.list_ i z (es ++ e ∷ []))) sign.Comma _ w refl p.0 (λ r. ap (λ l. text_naming i (leaves_of (sized z) (home_nesting i.home) (leaf (a_sign sign.Assign) None (home_nesting i.home) ∷ leaf (a_sign sign.LeftBrace) None (home_nesting i.home) ∷ l))) (ap (λ ps. leaves_of ps (home_nesting i.home) r) (sym (append-nil (trail argument (es ++ e ∷ []))) ∙ trail_snoc argument es e []) ∙ trail_leaves about 1 es (argument e ∷ the_sign sign.Comma ∷ []) (home_nesting i.home) r)))
+      (p.1.frames.0, (ap all_fit (sym (append-nil (trail argument (es ++ e ∷ []))) ∙ trail_snoc argument es e []) ∙ fit_append (trail argument es) (argument e ∷ the_sign sign.Comma ∷ []) p.1.frames.1 (and_from _ _ (stands_it 1 (about e) p.1.level p.1.fits) refl)), p.1.frames.2)
+  use_reached (m.list_ i z es) e sign.RightBrace w p = item_end_reached (xs ++ (t, home_nesting i.home) ∷ []) i z (initialiser.List (es ++ e ∷ []) false)
+      (none_at _ (λ r. text_naming i (leaves_of (sized z) (home_nesting i.home) (leaves_of (initialised (initialiser.List (es ++ e ∷ []) false)) (home_nesting i.home) r))) sign.RightBrace _ w refl p.0 (λ r. ap (λ l. text_naming i (leaves_of (sized z) (home_nesting i.home) l)) (last_value i z es e r)))
+      p.1.frames.0 (last_value_fit es e p.1.frames.1 (stands_it 1 (about e) p.1.level p.1.fits)) p.1.frames.2
+  use_reached _ e _ w p = tt
+
+  -- ---- the next word behind an expression
+
+  filled_reached : (f : Frame) (e : Expr) (fs : List Frame) (u : Use) → Reached xs (have e (f ∷ fs) u) → ((r : List Leaf) → ending f fs u e r ≡ r) → Reached xs (have (fill f e) fs u)
+  filled_reached f e fs u p h = (pre_as xs _ _ (λ r. filled_text e f fs u r p.1 ∙ ap (λ l. text_have e (f ∷ fs) u l) (h r)) p.0, filled_ok e f fs u p.1)
+
+  shut_reached : (f : Frame) (e : Expr) (fs : List Frame) (u : Use) (s : Sign) (more : Next) → sign_of_word t.word ≡ s → Reached xs (have e (f ∷ fs) u) → (Reached xs (have (fill f e) fs u) → Stepped xs t more) → Stepped xs t (shut f e fs u s more)
+  shut_reached (m.unary at o) e fs u s more w p go = go (filled_reached (m.unary at o) e fs u p (λ r. refl))
+  shut_reached (m.before at o) e fs u s more w p go = go (filled_reached (m.before at o) e fs u p (λ r. refl))
+  shut_reached (m.cast at ty) e fs u s more w p go = go (filled_reached (m.cast at ty) e fs u p (λ r. refl))
+  shut_reached (m.binary a o) e fs u s more w p go = go (filled_reached (m.binary a o) e fs u p (λ r. refl))
+  shut_reached (m.assign a o) e fs u s more w p go = go (filled_reached (m.assign a o) e fs u p (λ r. refl))
+  shut_reached (m.colon c a) e fs u s more w p go = go (filled_reached (m.colon c a) e fs u p (λ r. refl))
+  shut_reached (m.comma a) e fs u s more w p go = go (filled_reached (m.comma a) e fs u p (λ r. refl))
+  shut_reached (m.question c) e fs u s more w p go = stepped_on s sign.Colon _ None (λ h. (none_at _ (text_frames (m.colon c e ∷ fs) u) sign.Colon _ (w ∙ h) refl p.0 (λ r. refl), (and_from _ _ (and_parts _ _ p.1.frames.0).0 (and_from _ _ p.1.fits refl), p.1.frames.1, p.1.frames.2))) (λ h. tt)
+  shut_reached (m.paren at) e fs u s more w p go = stepped_on s sign.RightParen _ None (λ h. (none_at _ (text_have (tree.Paren at e) fs u) sign.RightParen _ (w ∙ h) refl p.0 (λ r. filled_text e (m.paren at) fs u r p.1), filled_ok e (m.paren at) fs u p.1)) (λ h. tt)
+  shut_reached (m.element at n) e fs u s more w p go = stepped_on s sign.RightBracket _ None (λ h. (none_at _ (text_have (tree.Element at n e) fs u) sign.RightBracket _ (w ∙ h) refl p.0 (λ r. filled_text e (m.element at n) fs u r p.1), filled_ok e (m.element at n) fs u p.1)) (λ h. tt)
+  shut_reached (m.arguments at n es) e fs u s more w p go = stepped_on s sign.Comma _ _
+    (λ h. (none_at _ (text_frames (m.arguments at n (es ++ e ∷ []) ∷ fs) u) sign.Comma _ (w ∙ h) refl p.0 (λ r. ap (λ l. text_frames fs u (leaf (a_name n) (Some at) (first fs u) ∷ leaf (a_sign sign.LeftParen) None (first fs u) ∷ l)) (ap (λ ps. leaves_of ps (first fs u) r) (sym (append-nil (trail argument (es ++ e ∷ []))) ∙ trail_snoc argument es e []) ∙ trail_leaves about 1 es (argument e ∷ the_sign sign.Comma ∷ []) (first fs u) r)),
+      ((ap all_fit (sym (append-nil (trail argument (es ++ e ∷ []))) ∙ trail_snoc argument es e []) ∙ fit_append (trail argument es) (argument e ∷ the_sign sign.Comma ∷ []) p.1.frames.0 (and_from _ _ (stands_it 1 (about e) p.1.level p.1.fits) refl)), p.1.frames.1, p.1.frames.2)))
+    (λ g. stepped_on s sign.RightParen _ None (λ h. (none_at _ (text_have (tree.Call at n (es ++ e ∷ [])) fs u) sign.RightParen _ (w ∙ h) refl p.0 (λ r. filled_text e (m.arguments at n es) fs u r p.1), filled_ok e (m.arguments at n es) fs u p.1)) (λ h. tt))
+
+  offer_reached : (fs : List Frame) (e : Expr) (u : Use) (s : Sign) → sign_of_word t.word ≡ s → Reached xs (have e fs u) → Stepped xs t (offer s e fs u)
+  offer_reached [] e u s w p = stepped_if (takes [] u (op_of s) e) _ _ (λ h. pushed_reached s (op_of s) e [] u w refl h p) (λ h. use_reached u e s w p)
+  offer_reached (f ∷ fs) e u s w p = stepped_if (takes (f ∷ fs) u (op_of s) e) _ _ (λ h. pushed_reached s (op_of s) e (f ∷ fs) u w refl h p) (λ h. shut_reached f e fs u s (offer s (fill f e) fs u) w p (λ q. offer_reached fs (fill f e) u s w q))
+
+  named_reached : (at : At) (n : List ℕ) (fs : List Frame) (u : Use) (s : Sign) → sign_of_word t.word ≡ s → Reached xs (m.named at n fs u) → Stepped xs t (m.on_name at n fs u s)
+  named_reached at n fs u sign.LeftParen w p =
+      let q = none_at _ (text_frames (m.arguments at n [] ∷ fs) u) sign.LeftParen _ w refl p.0 (λ r. refl) in
+      ((λ z. (by_sign _ (text_frames (m.arguments at n [] ∷ fs) u) (text_have (tree.Call at n []) fs u) sign.RightParen _ z q (λ r. lit (tree.Call at n []) _ fs u r (said_call at n []) (omega arith)), lit_ok (tree.Call at n []) _ fs u (said_call at n []) (omega arith) refl p.1)),
+        (q, (refl, omega (arith, hole_max fs u), p.1)))
+  named_reached at n fs u sign.LeftBracket w p = (none_at _ (text_frames (m.element at n ∷ fs) u) sign.LeftBracket _ w refl p.0 (λ r. refl), (refl, omega (arith, hole_max fs u), p.1))
+  named_reached at n fs u s w p = offer_reached fs (tree.Name at n) u s w (pre_as xs _ _ (λ r. lit (tree.Name at n) _ fs u r (said_name at n) (omega arith)) p.0, lit_ok (tree.Name at n) _ fs u (said_name at n) (omega arith) refl p.1)

@@ -9,3 +9,4 @@ mod Text
 mod Fill
 mod Reached
 mod Steps
+mod StatSteps

@@ -62,17 +62,17 @@ use Rattle.c_parser.proofs.Reached.{Taken, Pre, pre_as, pre_more, word_is, joine
 
 -- ---- single facts
 
-hole_max : (fs : List Frame) (u : Use) → hole fs u ≤ 14
+pub hole_max : (fs : List Frame) (u : Use) → hole fs u ≤ 14
 hole_max [] (m.case_ at us) = omega arith
 hole_max [] (m.size_ i) = omega arith
 hole_max [] _ = omega arith
 hole_max (m.binary a o ∷ fs) u = omega (arith, prec_high o)
 hole_max (_ ∷ fs) u = omega arith
 
-lit : (e : Expr) (S : Said) (fs : List Frame) (u : Use) (r : List Leaf) → about e ≡ S → 1 ≤ S.level → text_have e fs u r ≡ text_frames fs u (S.leaves (first fs u) r)
+pub lit : (e : Expr) (S : Said) (fs : List Frame) (u : Use) (r : List Leaf) → about e ≡ S → 1 ≤ S.level → text_have e fs u r ≡ text_frames fs u (S.leaves (first fs u) r)
 lit e S fs u r is h = ap (λ s. text_frames fs u (s.leaves (lead fs u s) r)) is ∙ ap (λ n. text_frames fs u (S.leaves n r)) (lead_first fs u S h)
 
-lit_ok : (e : Expr) (S : Said) (fs : List Frame) (u : Use) → about e ≡ S → 14 ≤ S.level → S.fits ≡ true → ok_frames fs u → Ok_have e fs u
+pub lit_ok : (e : Expr) (S : Said) (fs : List Frame) (u : Use) → about e ≡ S → 14 ≤ S.level → S.fits ≡ true → ok_frames fs u → Ok_have e fs u
 lit_ok e S fs u is l f ok = record { level = omega (arith, hole_max fs u, ap (λ (s : Said). s.level) is, l); fits = ap (λ (s : Said). s.fits) is ∙ f; frames = ok }
 
 -- the sign of an operator
@@ -124,11 +124,11 @@ op_named : (s : Sign) → is_op (op_of s) ≡ true → same s sign.Other ≡ fal
 op_named sign.Other h = absurd cc
 op_named s h = refl
 
-comma_trail : {A : Type 0} (f : A → Said) (x : A) (xs : List A) (n : ℕ) (r : List Leaf) → leaves_of (trail (λ y. piece (f y)) (x ∷ xs)) n r ≡ leaves_of (commas piece (map f (x ∷ xs))) n (leaf (a_sign sign.Comma) None n ∷ r)
+pub comma_trail : {A : Type 0} (f : A → Said) (x : A) (xs : List A) (n : ℕ) (r : List Leaf) → leaves_of (trail (λ y. piece (f y)) (x ∷ xs)) n r ≡ leaves_of (commas piece (map f (x ∷ xs))) n (leaf (a_sign sign.Comma) None n ∷ r)
 comma_trail f x [] n r = refl
 comma_trail f x (y ∷ xs) n r = ap (λ l. (f x).leaves n (leaf (a_sign sign.Comma) None n ∷ l)) (comma_trail f y xs n r)
 
-comma_trail_fit : {A : Type 0} (f : A → Said) (x : A) (xs : List A) → all_fit (commas piece (map f (x ∷ xs))) ≡ true → all_fit (trail (λ y. piece (f y)) (x ∷ xs)) ≡ true
+pub comma_trail_fit : {A : Type 0} (f : A → Said) (x : A) (xs : List A) → all_fit (commas piece (map f (x ∷ xs))) ≡ true → all_fit (trail (λ y. piece (f y)) (x ∷ xs)) ≡ true
 comma_trail_fit f x [] h = h
 comma_trail_fit f x (y ∷ xs) h = let p = and_parts (f x).fits _ h in and_from _ _ p.0 (comma_trail_fit f y xs p.1)
 
@@ -140,13 +140,13 @@ values_fit : (x : Expr) (xs : List Expr) → all_fit (trail argument (x ∷ xs))
 values_fit x [] h = h
 values_fit x (y ∷ xs) h = let p = and_parts (stands 1 (about x)) _ h in and_from _ _ p.0 (values_fit y xs p.1)
 
-sized_then : (z : Size) (ps : List Part) (n : ℕ) (r : List Leaf) → leaves_of (sized z ++ ps) n r ≡ leaves_of (sized z) n (leaves_of ps n r)
+pub sized_then : (z : Size) (ps : List Part) (n : ℕ) (r : List Leaf) → leaves_of (sized z ++ ps) n r ≡ leaves_of (sized z) n (leaves_of ps n r)
 sized_then size.Scalar ps n r = refl
 sized_then size.Absent ps n r = refl
 sized_then (size.Given e) ps n r = refl
 
 -- one more object
-item_text : (i : Naming) (z : Size) (v : Initialiser) (r : List Leaf) → text_type i.at i.words i.home (leaves_of (commas piece (map declarator (i.done ++ item_of i z v ∷ []))) (home_nesting i.home) r) ≡ text_naming i (leaves_of (sized z) (home_nesting i.home) (leaves_of (initialised v) (home_nesting i.home) r))
+pub item_text : (i : Naming) (z : Size) (v : Initialiser) (r : List Leaf) → text_type i.at i.words i.home (leaves_of (commas piece (map declarator (i.done ++ item_of i z v ∷ []))) (home_nesting i.home) r) ≡ text_naming i (leaves_of (sized z) (home_nesting i.home) (leaves_of (initialised v) (home_nesting i.home) r))
 item_text i z v r = ap (λ l. text_type i.at i.words i.home l) (
     ap (λ ps. leaves_of ps (home_nesting i.home) r) (sym (append-nil (commas piece (map declarator (i.done ++ item_of i z v ∷ [])))) ∙ trail_last object declarator piece (λ x. refl) i.done (item_of i z v) [])
     ∙ trail_pieces declarator i.done (object (item_of i z v) ∷ []) (home_nesting i.home) r
@@ -159,17 +159,17 @@ item_fits i z v h k l = any i.done (ap all_fit (sym (append-nil (commas piece (m
     any [] h = h
     any (x ∷ xs) h = h
 
-by_sign : (xs : Taken) (f g : List Leaf → List Leaf) (s : Sign) (n : ℕ) (p : At) → Pre xs f → ((r : List Leaf) → g r ≡ f (leaf (a_sign s) None n ∷ r)) → Pre (signed xs s n p) g
+pub by_sign : (xs : Taken) (f g : List Leaf → List Leaf) (s : Sign) (n : ℕ) (p : At) → Pre xs f → ((r : List Leaf) → g r ≡ f (leaf (a_sign s) None n ∷ r)) → Pre (signed xs s n p) g
 by_sign xs f g s n p h e = pre_more xs f g (lex (a_sign s) p) (a_sign s) None n refl tt h e
 
 -- ---- states ahead
 
-started_then : (b : Start) (ps : List Part) (n : ℕ) (r : List Leaf) → leaves_of (started b ++ ps) n r ≡ leaves_of (started b) n (leaves_of ps (start_behind n b) r)
+pub started_then : (b : Start) (ps : List Part) (n : ℕ) (r : List Leaf) → leaves_of (started b ++ ps) n r ≡ leaves_of (started b) n (leaves_of ps (start_behind n b) r)
 started_then start.Absent ps n r = refl
 started_then (start.Value e) ps n r = refl
 started_then (start.Declared d) ps n r = refl
 
-maybe_then : (x : Option Expr) (ps : List Part) (n : ℕ) (r : List Leaf) → leaves_of (maybe x ++ ps) n r ≡ leaves_of (maybe x) n (leaves_of ps (maybe_behind n x) r)
+pub maybe_then : (x : Option Expr) (ps : List Part) (n : ℕ) (r : List Leaf) → leaves_of (maybe x ++ ps) n r ≡ leaves_of (maybe x) n (leaves_of ps (maybe_behind n x) r)
 maybe_then None ps n r = refl
 maybe_then (Some e) ps n r = refl
 
@@ -177,56 +177,56 @@ abbrev for_text : At → List Under → List Part → List Leaf → List Leaf
 for_text at us ps r = text_unders us (leaves_at at (the_sign sign.For ∷ the_sign sign.LeftParen ∷ ps) (suc (inside us)) r)
 
 -- the header of a for up to the words behind a part of it
-for_parts : (at : At) (us : List Under) (b : Start) (ps : List Part) (r : List Leaf) → for_text at us (started b ++ ps) r ≡ for_text at us (started b) (leaves_of ps (start_behind (suc (inside us)) b) r)
+pub for_parts : (at : At) (us : List Under) (b : Start) (ps : List Part) (r : List Leaf) → for_text at us (started b ++ ps) r ≡ for_text at us (started b) (leaves_of ps (start_behind (suc (inside us)) b) r)
 for_parts at us b ps r = ap (λ l. text_unders us (leaf (a_sign sign.For) (Some at) (suc (inside us)) ∷ leaf (a_sign sign.LeftParen) None (suc (inside us)) ∷ l)) (started_then b ps (suc (inside us)) r)
 
-next_reached : (xs : Taken) (at : At) (b : Start) (t : Option Expr) (us : List Under) → Pre xs (text_use (m.next_ at b t us)) → all_fit (started b) ≡ true → all_fit (maybe t) ≡ true → ok_unders us → Reached xs (for_next at b t us)
+pub next_reached : (xs : Taken) (at : At) (b : Start) (t : Option Expr) (us : List Under) → Pre xs (text_use (m.next_ at b t us)) → all_fit (started b) ≡ true → all_fit (maybe t) ≡ true → ok_unders us → Reached xs (for_next at b t us)
 next_reached xs at b t us p fb ft ok = (λ q. (by_sign xs (text_use (m.next_ at b t us)) (text_unders (m.in_for at b t None ∷ us)) sign.RightParen _ q p ends, (fit_append (started b) _ fb (fit_append (maybe t) _ ft refl), ok)), (p, (fb, ft, ok)))
   where
     ends : (r : List Leaf) → for_text at us (started b ++ (maybe t ++ the_sign sign.Semicolon ∷ the_sign sign.RightParen ∷ [])) r ≡ for_text at us (started b ++ (maybe t ++ the_sign sign.Semicolon ∷ [])) (leaf (a_sign sign.RightParen) None (maybe_behind (start_behind (suc (inside us)) b) t) ∷ r)
     ends r = for_parts at us b _ r ∙ ap (λ l. for_text at us (started b) l) (maybe_then t _ _ r) ∙ sym (for_parts at us b _ _ ∙ ap (λ l. for_text at us (started b) l) (maybe_then t _ _ _))
 
-test_reached : (xs : Taken) (at : At) (b : Start) (us : List Under) → Pre xs (for_text at us (started b)) → all_fit (started b) ≡ true → ok_unders us → Reached xs (for_test at b us)
+pub test_reached : (xs : Taken) (at : At) (b : Start) (us : List Under) → Pre xs (for_text at us (started b)) → all_fit (started b) ≡ true → ok_unders us → Reached xs (for_test at b us)
 test_reached xs at b us p fb ok = (λ q. next_reached (signed xs sign.Semicolon _ q) at b None us (by_sign xs (for_text at us (started b)) (text_use (m.next_ at b None us)) sign.Semicolon _ q p (λ r. for_parts at us b (the_sign sign.Semicolon ∷ []) r)) fb refl ok, (p, (fb, ok)))
 
-add_reached : (xs : Taken) (x : Statement) (us : List Under) → Pre xs (λ r. text_unders us ((about_statement x).leaves (entry (inside us) (about_statement x)) r)) → (about_statement x).fits ≡ true → ok_unders us → is_block us ≡ true → Reached xs (want (add x us))
+pub add_reached : (xs : Taken) (x : Statement) (us : List Under) → Pre xs (λ r. text_unders us ((about_statement x).leaves (entry (inside us) (about_statement x)) r)) → (about_statement x).fits ≡ true → ok_unders us → is_block us ≡ true → Reached xs (want (add x us))
 add_reached xs x [] p fx ok h = absurd cc
 add_reached xs x (m.in_block at ss ∷ us) p fx ok h = (pre_as xs _ (text_unders (m.in_block at (ss ++ x ∷ []) ∷ us)) (λ r. ap (λ l. text_unders us (leaf (a_sign sign.LeftBrace) (Some at) (suc (suc (inside us))) ∷ l)) (items_snoc ss x _ r)) p, (items_fit ss x ok.0 fx, ok.1))
 add_reached xs x (m.in_switch at e ss ∷ us) p fx ok h = (pre_as xs _ (text_unders (m.in_switch at e (ss ++ x ∷ []) ∷ us)) (λ r. ap (λ l. text_unders us (leaves_at at (the_sign sign.Switch ∷ condition e []) (suc (inside us)) (leaf (a_sign sign.LeftBrace) None (suc (behind (suc (inside us)) (about e))) ∷ l))) (items_snoc ss x _ r)) p, (ok.0, items_fit ss x ok.1 fx, ok.2))
 add_reached xs x (m.in_body ps at g n qs ss ∷ us) p fx ok h = (pre_as xs _ (text_unders (m.in_body ps at g n qs (ss ++ x ∷ []) ∷ us)) (λ r. ap (λ l. leaves_of (tops ps) 0 (leaves_at at (returned g) 0 (leaf (a_name n) None 0 ∷ leaf (a_sign sign.LeftParen) None 0 ∷ leaves_of (listed qs) 0 (leaf (a_sign sign.RightParen) None 0 ∷ leaf (a_sign sign.LeftBrace) None 1 ∷ l)))) (items_snoc ss x 1 r)) p, (ok.0, ok.1, items_fit ss x ok.2 fx))
 add_reached xs x (_ ∷ us) p fx ok h = absurd cc
 
-declared_entry : (d : Declaration) (n : ℕ) → entry n (declared d) ≡ n
+pub declared_entry : (d : Declaration) (n : ℕ) → entry n (declared d) ≡ n
 declared_entry (declaration.Objects at t is) n = refl
 declared_entry (declaration.Function at g k ps) n = refl
 
-conclude_reached : (xs : Taken) (h : Home) (d : Declaration) → Pre xs (λ r. text_home h ((declared d).leaves (home_nesting h) r)) → (declared d).fits ≡ true → ok_home h → Reached xs (conclude h d)
+pub conclude_reached : (xs : Taken) (h : Home) (d : Declaration) → Pre xs (λ r. text_home h ((declared d).leaves (home_nesting h) r)) → (declared d).fits ≡ true → ok_home h → Reached xs (conclude h d)
 conclude_reached xs (m.at_top ps) d p f ok = (pre_as xs _ _ (λ r. tops_snoc ps (external.Declared d) r) p, tops_fit ps (external.Declared d) ok f)
 conclude_reached xs (m.at_block us) d p f ok = add_reached xs (tree_.Declared d) us (pre_as xs _ _ (λ r. ap (λ (s : Said). text_unders us (s.leaves (entry (inside us) s) r)) (told_declared d) ∙ ap (λ n. text_unders us ((declared d).leaves n r)) (declared_entry d (inside us))) p) (ap (λ (s : Said). s.fits) (told_declared d) ∙ f) ok.0 ok.1
 conclude_reached xs (m.at_start at us) d p f ok = test_reached xs at (start.Declared d) us p (and_from _ _ f refl) ok
 
-item_end_reached : (xs : Taken) (i : Naming) (z : Size) (v : Initialiser) → Pre xs (λ r. text_naming i (leaves_of (sized z) (home_nesting i.home) (leaves_of (initialised v) (home_nesting i.home) r))) → all_fit (sized z) ≡ true → all_fit (initialised v) ≡ true → ok_naming i → Reached xs (item_end i z v)
+pub item_end_reached : (xs : Taken) (i : Naming) (z : Size) (v : Initialiser) → Pre xs (λ r. text_naming i (leaves_of (sized z) (home_nesting i.home) (leaves_of (initialised v) (home_nesting i.home) r))) → all_fit (sized z) ≡ true → all_fit (initialised v) ≡ true → ok_naming i → Reached xs (item_end i z v)
 item_end_reached xs i z v p fz fv ok = (pre_as xs _ _ (item_text i z v) p, item_fits i z v ok.1 fz fv, ok.0)
 
 -- ---- steps
 
 module _ (xs : Taken) (t : Lexeme) where
-  stepped_on : (s x : Sign) (a b : Next) → (s ≡ x → Stepped xs t a) → (same s x ≡ false → Stepped xs t b) → Stepped xs t (m.on s x a b)
+  pub stepped_on : (s x : Sign) (a b : Next) → (s ≡ x → Stepped xs t a) → (same s x ≡ false → Stepped xs t b) → Stepped xs t (m.on s x a b)
   stepped_on s x a b h k = go (same s x) refl
     where
       go : (c : Bool) → same s x ≡ c → Stepped xs t (cond c a b)
       go true e = h (same_true the_type (search rules) s x e)
       go false e = k e
 
-  stepped_if : (c : Bool) (a b : Next) → (c ≡ true → Stepped xs t a) → (c ≡ false → Stepped xs t b) → Stepped xs t (cond c a b)
+  pub stepped_if : (c : Bool) (a b : Next) → (c ≡ true → Stepped xs t a) → (c ≡ false → Stepped xs t b) → Stepped xs t (cond c a b)
   stepped_if true a b h k = h refl
   stepped_if false a b h k = k refl
 
   -- the word is this sign
-  none_at : (f g : List Leaf → List Leaf) (s : Sign) (n : ℕ) → sign_of_word t.word ≡ s → same s sign.Other ≡ false → Pre xs f → ((r : List Leaf) → g r ≡ f (leaf (a_sign s) None n ∷ r)) → Pre (xs ++ (t, n) ∷ []) g
+  pub none_at : (f g : List Leaf → List Leaf) (s : Sign) (n : ℕ) → sign_of_word t.word ≡ s → same s sign.Other ≡ false → Pre xs f → ((r : List Leaf) → g r ≡ f (leaf (a_sign s) None n ∷ r)) → Pre (xs ++ (t, n) ∷ []) g
   none_at f g s n e o p h = pre_more xs f g t (a_sign s) None n (word_is t.word s e o) tt p h
 
-  some_at : (f g : List Leaf → List Leaf) (s : Sign) (n : ℕ) → sign_of_word t.word ≡ s → same s sign.Other ≡ false → Pre xs f → ((r : List Leaf) → g r ≡ f (leaf (a_sign s) (Some t.at) n ∷ r)) → Pre (xs ++ (t, n) ∷ []) g
+  pub some_at : (f g : List Leaf → List Leaf) (s : Sign) (n : ℕ) → sign_of_word t.word ≡ s → same s sign.Other ≡ false → Pre xs f → ((r : List Leaf) → g r ≡ f (leaf (a_sign s) (Some t.at) n ∷ r)) → Pre (xs ++ (t, n) ∷ []) g
   some_at f g s n e o p h = pre_more xs f g t (a_sign s) (Some t.at) n (word_is t.word s e o) refl p h
 
   -- ---- operands
@@ -241,13 +241,13 @@ module _ (xs : Taken) (t : Lexeme) where
   prefix_reached sign.LeftParen fs u e p ok = (some_at _ _ sign.LeftParen _ e refl p (λ r. refl), ok)
   prefix_reached _ fs u e p ok = tt
 
-  operand_reached : (w : Word) (fs : List Frame) (u : Use) → t.word ≡ w → Pre xs (text_frames fs u) → ok_frames fs u → Stepped xs t (m.on_operand t.at w fs u)
+  pub operand_reached : (w : Word) (fs : List Frame) (u : Use) → t.word ≡ w → Pre xs (text_frames fs u) → ok_frames fs u → Stepped xs t (m.on_operand t.at w fs u)
   operand_reached (a_name n) fs u e p ok = (pre_more xs _ _ t (a_name n) (Some t.at) _ e refl p (λ r. refl), ok)
   operand_reached (a_number v d k) fs u e p ok = (pre_more xs _ _ t (a_number v d k) (Some t.at) _ e refl p (λ r. lit (tree.Number t.at v d k) _ fs u r (said_number t.at v d k) (omega arith)), lit_ok _ _ fs u (said_number t.at v d k) (omega arith) refl ok)
   operand_reached (a_character v) fs u e p ok = (pre_more xs _ _ t (a_character v) (Some t.at) _ e refl p (λ r. lit (tree.Character t.at v) _ fs u r (said_character t.at v) (omega arith)), lit_ok _ _ fs u (said_character t.at v) (omega arith) refl ok)
   operand_reached (a_sign s) fs u e p ok = prefix_reached s fs u (ap sign_of_word e) p ok
 
-  opened_reached : (at : At) (o : Option TypeWords) (fs : List Frame) (u : Use) → type_of (sign_of_word t.word) ≡ o → Pre xs (λ r. text_frames fs u (leaf (a_sign sign.LeftParen) (Some at) (first fs u) ∷ r)) → ok_frames fs u → Stepped xs t (m.on_opened at t.at t.word o fs u)
+  pub opened_reached : (at : At) (o : Option TypeWords) (fs : List Frame) (u : Use) → type_of (sign_of_word t.word) ≡ o → Pre xs (λ r. text_frames fs u (leaf (a_sign sign.LeftParen) (Some at) (first fs u) ∷ r)) → ok_frames fs u → Stepped xs t (m.on_opened at t.at t.word o fs u)
   opened_reached at None fs u e p ok = operand_reached t.word (m.paren at ∷ fs) u refl p (refl, omega (arith, hole_max fs u), ok)
   opened_reached at (Some ty) fs u e p ok = stepped_if (nat_le (hole fs u) 13) _ _ (λ h. (none_at _ _ (sign_of_word t.word) _ refl (type_no_other _ ty e) p (λ r. ap (λ ps. text_frames fs u (leaf (a_sign sign.LeftParen) (Some at) (first fs u) ∷ leaves_of ps (first fs u) r)) (type_sign _ ty e)), leb-true _ _ h, ok)) (λ h. tt)
 
@@ -255,7 +255,7 @@ module _ (xs : Taken) (t : Lexeme) where
   cast_fit words.Char = refl
   cast_fit _ = refl
 
-  casting_reached : (at : At) (ty : TypeWords) (s : Sign) (o : Option TypeWords) (fs : List Frame) (u : Use) → sign_of_word t.word ≡ s → joined ty s ≡ o → Reached xs (casting at ty fs u) → Stepped xs t (m.on_casting at ty s o fs u)
+  pub casting_reached : (at : At) (ty : TypeWords) (s : Sign) (o : Option TypeWords) (fs : List Frame) (u : Use) → sign_of_word t.word ≡ s → joined ty s ≡ o → Reached xs (casting at ty fs u) → Stepped xs t (m.on_casting at ty s o fs u)
   casting_reached at ty s (Some more) fs u e j p = (none_at _ _ s _ e (joined_sign ty s more j) p.0 (λ r. ap (λ l. text_frames fs u (leaf (a_sign sign.LeftParen) (Some at) (first fs u) ∷ l)) (type_snoc ty s more (first fs u) r j)), p.1, p.2)
   casting_reached at ty s None fs u e j p = stepped_on s sign.RightParen _ None (λ h. (none_at _ (text_frames (m.cast at ty ∷ fs) u) sign.RightParen _ (e ∙ h) refl p.0 (λ r. ap (λ l. text_frames fs u (leaf (a_sign sign.LeftParen) (Some at) (first fs u) ∷ l)) (type_then ty (operator sign.RightParen ∷ []) (first fs u) r)), (cast_fit ty, p.1, p.2))) (λ h. tt)
 
@@ -279,32 +279,28 @@ module _ (xs : Taken) (t : Lexeme) where
 
   -- ---- the ends of objects
 
-  objects_fit : (at : At) (ty : TypeWords) (is : List Item) → all_fit (some is ∷ commas piece (map declarator is)) ≡ true → (declared (declaration.Objects at ty is)).fits ≡ true
-  objects_fit at ty is h = head ty _ (fit_append (type ty) _ (type_fit ty) (last is h))
-    where
-      type_fit : (ty : TypeWords) → all_fit (type ty) ≡ true
-      type_fit words.Char = refl
-      type_fit _ = refl
+  pub head_fit : (at : At) (ty : TypeWords) (ps : List Part) → all_fit ps ≡ true → (begins_at at (type ty ++ ps) && all_fit (type ty ++ ps)) ≡ true
+  head_fit at words.Char ps h = h
+  head_fit at words.SignedChar ps h = h
+  head_fit at words.CharSigned ps h = h
+  head_fit at words.UnsignedChar ps h = h
+  head_fit at words.CharUnsigned ps h = h
+  head_fit at words.Int ps h = h
+  head_fit at words.Signed ps h = h
+  head_fit at words.SignedInt ps h = h
+  head_fit at words.IntSigned ps h = h
+  head_fit at words.Unsigned ps h = h
+  head_fit at words.UnsignedInt ps h = h
+  head_fit at words.IntUnsigned ps h = h
 
+  objects_fit : (at : At) (ty : TypeWords) (is : List Item) → all_fit (some is ∷ commas piece (map declarator is)) ≡ true → (declared (declaration.Objects at ty is)).fits ≡ true
+  objects_fit at ty is h = head_fit at ty _ (last is h)
+    where
       last : (is : List Item) → all_fit (some is ∷ commas piece (map declarator is)) ≡ true → all_fit (some is ∷ (commas piece (map declarator is) ++ the_sign sign.Semicolon ∷ [])) ≡ true
       last [] h = absurd cc
       last (i ∷ is) h = fit_append (commas piece (map declarator (i ∷ is))) (the_sign sign.Semicolon ∷ []) h refl
 
-      head : (ty : TypeWords) (ps : List Part) → all_fit (type ty ++ ps) ≡ true → (begins_at at (type ty ++ ps) && all_fit (type ty ++ ps)) ≡ true
-      head words.Char ps h = h
-      head words.SignedChar ps h = h
-      head words.CharSigned ps h = h
-      head words.UnsignedChar ps h = h
-      head words.CharUnsigned ps h = h
-      head words.Int ps h = h
-      head words.Signed ps h = h
-      head words.SignedInt ps h = h
-      head words.IntSigned ps h = h
-      head words.Unsigned ps h = h
-      head words.UnsignedInt ps h = h
-      head words.IntUnsigned ps h = h
-
-  ended_reached : (at : At) (ty : TypeWords) (is : List Item) (h : Home) (s : Sign) → sign_of_word t.word ≡ s → Reached xs (m.item_ended at ty is h) → Stepped xs t (m.on_ended at ty is h s)
+  pub ended_reached : (at : At) (ty : TypeWords) (is : List Item) (h : Home) (s : Sign) → sign_of_word t.word ≡ s → Reached xs (m.item_ended at ty is h) → Stepped xs t (m.on_ended at ty is h s)
   ended_reached at ty [] h s e p = absurd (none p.1)
     where
       none : all_fit (some {A = Item} [] ∷ []) ≡ true → ⊥
@@ -315,7 +311,7 @@ module _ (xs : Taken) (t : Lexeme) where
       (objects_fit at ty (i ∷ is) p.1) p.2
   ended_reached at ty (i ∷ is) h _ e p = tt
 
-  item_end_step : (i : Naming) (z : Size) (v : Initialiser) (s : Sign) → sign_of_word t.word ≡ s → Pre xs (λ r. text_naming i (leaves_of (sized z) (home_nesting i.home) (leaves_of (initialised v) (home_nesting i.home) r))) → all_fit (sized z) ≡ true → all_fit (initialised v) ≡ true → ok_naming i → Stepped xs t (m.on_item_end i z v s)
+  pub item_end_step : (i : Naming) (z : Size) (v : Initialiser) (s : Sign) → sign_of_word t.word ≡ s → Pre xs (λ r. text_naming i (leaves_of (sized z) (home_nesting i.home) (leaves_of (initialised v) (home_nesting i.home) r))) → all_fit (sized z) ≡ true → all_fit (initialised v) ≡ true → ok_naming i → Stepped xs t (m.on_item_end i z v s)
   item_end_step i z v s e p fz fv ok = ended_reached i.at i.words (i.done ++ item_of i z v ∷ []) i.home s e (item_end_reached xs i z v p fz fv ok)
 
   -- ---- the ends of expressions
@@ -402,11 +398,11 @@ module _ (xs : Taken) (t : Lexeme) where
       ((ap all_fit (sym (append-nil (trail argument (es ++ e ∷ []))) ∙ trail_snoc argument es e []) ∙ fit_append (trail argument es) (argument e ∷ the_sign sign.Comma ∷ []) p.1.frames.0 (and_from _ _ (stands_it 1 (about e) p.1.level p.1.fits) refl)), p.1.frames.1, p.1.frames.2)))
     (λ g. stepped_on s sign.RightParen _ None (λ h. (none_at _ (text_have (tree.Call at n (es ++ e ∷ [])) fs u) sign.RightParen _ (w ∙ h) refl p.0 (λ r. filled_text e (m.arguments at n es) fs u r p.1), filled_ok e (m.arguments at n es) fs u p.1)) (λ h. tt))
 
-  offer_reached : (fs : List Frame) (e : Expr) (u : Use) (s : Sign) → sign_of_word t.word ≡ s → Reached xs (have e fs u) → Stepped xs t (offer s e fs u)
+  pub offer_reached : (fs : List Frame) (e : Expr) (u : Use) (s : Sign) → sign_of_word t.word ≡ s → Reached xs (have e fs u) → Stepped xs t (offer s e fs u)
   offer_reached [] e u s w p = stepped_if (takes [] u (op_of s) e) _ _ (λ h. pushed_reached s (op_of s) e [] u w refl h p) (λ h. use_reached u e s w p)
   offer_reached (f ∷ fs) e u s w p = stepped_if (takes (f ∷ fs) u (op_of s) e) _ _ (λ h. pushed_reached s (op_of s) e (f ∷ fs) u w refl h p) (λ h. shut_reached f e fs u s (offer s (fill f e) fs u) w p (λ q. offer_reached fs (fill f e) u s w q))
 
-  named_reached : (at : At) (n : List ℕ) (fs : List Frame) (u : Use) (s : Sign) → sign_of_word t.word ≡ s → Reached xs (m.named at n fs u) → Stepped xs t (m.on_name at n fs u s)
+  pub named_reached : (at : At) (n : List ℕ) (fs : List Frame) (u : Use) (s : Sign) → sign_of_word t.word ≡ s → Reached xs (m.named at n fs u) → Stepped xs t (m.on_name at n fs u s)
   named_reached at n fs u sign.LeftParen w p =
       let q = none_at _ (text_frames (m.arguments at n [] ∷ fs) u) sign.LeftParen _ w refl p.0 (λ r. refl) in
       ((λ z. (by_sign _ (text_frames (m.arguments at n [] ∷ fs) u) (text_have (tree.Call at n []) fs u) sign.RightParen _ z q (λ r. lit (tree.Call at n []) _ fs u r (said_call at n []) (omega arith)), lit_ok (tree.Call at n []) _ fs u (said_call at n []) (omega arith) refl p.1)),

@@ -1,6 +1,4 @@
 -- The machine over the words of a declaration comes to what that declaration concludes.
-use denote.Enum.Bare.{same_true}
-use Rattle.c_grammar.specs.contracts.sign.Sign.{the_type}
 use Rattle.std.proofs.Common.{rules, ◌≡◌, ℕ, ℤ, zero, suc, ◌+◌, ◌<◌, ◌≤◌, Bool, true, false, cond, nat_le, ◌==◌, ◌&&◌, List, [], ◌∷◌, ◌++◌, length, map, Option, Some, None, Ok, Err, refl, sym, ap, subst, ◌∙◌, append_assoc, arith}
 use Rattle.std.proofs.lemmas.Bool.{and_parts, leb-true, le-leb, leb-false, and_from}
 use Rattle.std.proofs.lemmas.Bool.Decides.{nat_tests}
@@ -33,19 +31,8 @@ use Rattle.c_reading.specs.Trees.{place_of, type_of, joined}
 use Rattle.c_parser.proofs.Machine as m
 use Rattle.c_parser.proofs.Machine.{State, operand, have, Use, step, run, Outcome, Next, goes, moved, hole, first, op_of, takes, close_use, offer, Home, Naming, Heading, home_nesting, conclude, item_named, item_sized, item_ended, item_next, item_end, item_of, value_after, parameters_first, parameter_typed, parameter_ended, parameter_next, header, declaring, either, expect}
 use Rattle.c_parser.proofs.Runs.{lex, head_sign, starts, Met, met_as, took, took_any, skip, alike, typed, Typing, type_leaves, type_of_leaves, type_at_leaves}
-use Rattle.c_parser.proofs.ExprRuns.{Fit, fit, binds, Follow, follow_none, follow_comma, heads}
+use Rattle.c_parser.proofs.ExprRuns.{not_sign, Fit, fit, binds, Follow, follow_none, follow_comma, heads}
 use Rattle.c_parser.proofs.ExprComplete.{complete}
-
--- a word that no expression begins with
-pub not_at : (s x : Sign) → starts s ≡ true → starts x ≡ false → same s x ≡ false
-not_at s x h g = go (same s x) refl
-  where
-    no_true : false ≡ true → ⊥
-    no_true e = absurd cc
-
-    go : (b : Bool) → same s x ≡ b → b ≡ false
-    go false e = refl
-    go true e = absurd (no_true (sym g ∙ (ap starts (sym (same_true the_type (search rules) s x e)) ∙ h)))
 
 pub joined_other : (t : TypeWords) → joined t sign.Other ≡ None
 joined_other words.Char = refl
@@ -85,7 +72,7 @@ module _ (T : ℕ → Bool) where
       let p = fit 2 e _ fits in
       took T (item_named i) (either sign.RightBracket (home_nesting i.home) (item_sized i size.Absent) (operand [] (m.size_ i))) ts w (λ q st. refl) mt
       (λ vs mv. skip T (either sign.RightBracket (home_nesting i.home) (item_sized i size.Absent) (operand [] (m.size_ i))) (operand [] (m.size_ i)) vs
-          (λ t st. ap (λ b. cond b (goes (home_nesting i.home) (item_sized i size.Absent)) (step (operand [] (m.size_ i)) t)) (not_at _ sign.RightBracket st refl)) (heads e _ _) mv
+          (λ t st. ap (λ b. cond b (goes (home_nesting i.home) (item_sized i size.Absent)) (step (operand [] (m.size_ i)) t)) (not_sign t.word sign.RightBracket st refl)) (heads e _ _) mv
         ∙ (complete T e p.fits).all (omega (arith, p.level)) [] (m.size_ i) p.level _ (follow_none _ _ refl) vs w mv
           (λ xs mx. took T (have e [] (m.size_ i)) (item_sized i (size.Given e)) xs w (λ q st. refl) mx go))
 
@@ -108,7 +95,7 @@ module _ (T : ℕ → Bool) where
       (complete T e p.fits).all p.level [] (m.list_ i z done) p.level _ (follow_comma _ _ refl) ts w mt
         (λ xs mx. took T (have e [] (m.list_ i z done)) (value_after i z (done ++ e ∷ [])) xs w (λ q st. refl) mx
           (λ ys my. skip T (value_after i z (done ++ e ∷ [])) (operand [] (m.list_ i z (done ++ e ∷ []))) ys
-              (λ t st. ap (λ b. cond b (goes (home_nesting i.home) (item_end i z (initialiser.List (done ++ e ∷ []) true))) (step (operand [] (m.list_ i z (done ++ e ∷ []))) t)) (not_at _ sign.RightBrace st refl)) (value_head f es _ _ _) my
+              (λ t st. ap (λ b. cond b (goes (home_nesting i.home) (item_end i z (initialiser.List (done ++ e ∷ []) true))) (step (operand [] (m.list_ i z (done ++ e ∷ []))) t)) (not_sign t.word sign.RightBrace st refl)) (value_head f es _ _ _) my
             ∙ values_run i z (done ++ e ∷ []) f es last p.rest r ys w my (λ zs mz. ap (λ l. run T zs (item_end i z (initialiser.List l last))) (append_assoc done (e ∷ []) (f ∷ es)) ∙ go zs mz)))
     where
       value_head : (e : Expr) (es : List Expr) (ps : List Part) (n : ℕ) (r : List Leaf) → starts (head_sign (leaves_of (commas assign (map about (e ∷ es)) ++ ps) n r)) ≡ true
@@ -140,7 +127,7 @@ module _ (T : ℕ → Bool) where
       let p = fit 1 e true fits in
       took T (item_sized i z) (begun_value i z) ts w (λ q st. refl) mt
       (λ vs mv. skip T (begun_value i z) (operand [] (m.value_ i z)) vs
-          (λ t st. ap (λ b. cond b (goes (home_nesting i.home) (operand [] (m.list_ i z []))) (step (operand [] (m.value_ i z)) t)) (not_at _ sign.LeftBrace st refl)) (heads e _ _) mv
+          (λ t st. ap (λ b. cond b (goes (home_nesting i.home) (operand [] (m.list_ i z []))) (step (operand [] (m.value_ i z)) t)) (not_sign t.word sign.LeftBrace st refl)) (heads e _ _) mv
         ∙ (complete T e p.fits).all p.level [] (m.value_ i z) p.level r (ends_binds r ends _) vs w mv
           (λ xs mx. ended_value i z e r xs ends mx ∙ go xs mx))
   initials i z (initialiser.List [] last) fits r ends ts w mt go = absurd cc

@@ -31,7 +31,7 @@ use Rattle.c_parser.proofs.Machine.{State, operand, have, named, opened, casting
 use Rattle.c_parser.proofs.Trees.{at_of, induction, said_comma, said_assign, said_conditional, said_binary, said_cast, said_unary, said_before, said_after, said_name, said_element, said_call, said_number, said_character, said_paren}
 use Rattle.c_parser.proofs.Runs.{lex, head_sign, starts, Met, met_as, took, skip, alike, typed, Typing, type_leaves, type_of_leaves}
 
-use Rattle.c_parser.proofs.ExprRuns.{Left, Fit, fit, left_fit, placed, binds, Follow, follow_up, follow_none, follow_comma, prec_low, prec_high, binary_op, assign_op, step_op, binary_binds, assign_binds, step_binds, under, pushed, shut_by, shut_none, open_hole, open_first, entry_open, heads, no_type}
+use Rattle.c_parser.proofs.ExprRuns.{not_sign, Left, Fit, fit, left_fit, placed, binds, Follow, follow_up, follow_none, follow_comma, prec_low, prec_high, binary_op, assign_op, step_op, binary_binds, assign_binds, step_binds, under, pushed, shut_by, shut_none, open_hole, open_first, entry_open, heads, no_type}
 
 abbrev a_sign_leaf : Sign → ℕ → Leaf
 a_sign_leaf s n = leaf (a_sign s) None n
@@ -48,10 +48,6 @@ unnamed : (at : At) (n : List ℕ) (fs : List Frame) (u : Use) (s : Sign) → bi
 unnamed at n fs u sign.LeftParen h = absurd (omega arith)
 unnamed at n fs u sign.LeftBracket h = absurd (omega arith)
 unnamed at n fs u s h = refl
-
-no_close : (s : Sign) → starts s ≡ true → same s sign.RightParen ≡ false
-no_close sign.RightParen h = absurd cc
-no_close s h = refl
 
 follow_13 : (r : List Leaf) → Follow 14 r → Follow 13 r
 follow_13 r f = record { top = f.top; cast = λ h. f.cast (omega arith); mid = λ h. absurd (omega (arith, h)); two = λ h. absurd (omega (arith, h)); one = λ h. absurd (omega (arith, h)) }
@@ -259,7 +255,7 @@ module _ (T : ℕ → Bool) where
       called : (es : List Known) → all_fit (closing es) ≡ true → (fs : List Frame) (u : Use) (r : List Leaf) (ts : List Lexeme) (w : Outcome) → Met T ts (leaves_of (closing es) (first fs u) r) → ((vs : List Lexeme) → Met T vs r → run T vs (have (tree.Call at n (trees es)) fs u) ≡ w) → run T ts (m.either sign.RightParen (first fs u) (have (tree.Call at n []) fs u) (operand (m.arguments at n [] ∷ fs) u)) ≡ w
       called [] fits fs u r ts w mt go = took T (m.either sign.RightParen (first fs u) (have (tree.Call at n []) fs u) (operand (m.arguments at n [] ∷ fs) u)) (have (tree.Call at n []) fs u) ts w (λ z st. refl) mt go
       called (e ∷ es) fits fs u r ts w mt go = skip T (m.either sign.RightParen (first fs u) (have (tree.Call at n []) fs u) (operand (m.arguments at n [] ∷ fs) u)) (operand (m.arguments at n [] ∷ fs) u) ts
-          (λ t st. ap (λ b. cond b (goes (first fs u) (have (tree.Call at n []) fs u)) (step (operand (m.arguments at n [] ∷ fs) u) t)) (no_close _ st)) (first_head e es _ _) mt ∙ arguments_run at n fs u [] e es fits r ts w mt go
+          (λ t st. ap (λ b. cond b (goes (first fs u) (have (tree.Call at n []) fs u)) (step (operand (m.arguments at n [] ∷ fs) u) t)) (not_sign t.word sign.RightParen st refl)) (first_head e es _ _) mt ∙ arguments_run at n fs u [] e es fits r ts w mt go
 
   -- the words of an expression that fits lead from where one is wanted to where it is had
   pub complete : (e : Expr) → Good e

@@ -1,5 +1,7 @@
 -- The machine over the words of an expression comes to have that expression.
-use Rattle.std.proofs.Common.{◌≡◌, ℕ, ℤ, zero, suc, ◌+◌, ◌<◌, ◌≤◌, Bool, true, false, cond, nat_le, ◌==◌, ◌&&◌, List, [], ◌∷◌, ◌++◌, length, map, Option, Some, None, Ok, Err, refl, sym, ap, subst, ◌∙◌, append_assoc, arith}
+use denote.Enum.Bare.{same_true}
+use Rattle.c_grammar.specs.contracts.sign.Sign.{the_type}
+use Rattle.std.proofs.Common.{rules, ◌≡◌, ℕ, ℤ, zero, suc, ◌+◌, ◌<◌, ◌≤◌, Bool, true, false, cond, nat_le, ◌==◌, ◌&&◌, List, [], ◌∷◌, ◌++◌, length, map, Option, Some, None, Ok, Err, refl, sym, ap, subst, ◌∙◌, append_assoc, arith}
 use Rattle.std.proofs.lemmas.Bool.{and_parts, leb-true, le-leb, leb-false, and_from}
 use Rattle.std.proofs.lemmas.Bool.Decides.{nat_tests}
 use Rattle.std.proofs.lemmas.List.{append-nil}
@@ -227,3 +229,20 @@ no_type sign.Int h = absurd cc
 no_type sign.Signed h = absurd cc
 no_type sign.Unsigned h = absurd cc
 no_type s h = refl
+
+-- a word that no expression begins with
+pub not_at : (s x : Sign) → starts s ≡ true → starts x ≡ false → same s x ≡ false
+not_at s x h g = go (same s x) refl
+  where
+    no_true : false ≡ true → ⊥
+    no_true e = absurd cc
+
+    go : (b : Bool) → same s x ≡ b → b ≡ false
+    go false e = refl
+    go true e = absurd (no_true (sym g ∙ (ap starts (sym (same_true the_type (search rules) s x e)) ∙ h)))
+
+pub not_sign : (w : Word) (x : Sign) → starts (sign_of_word w) ≡ true → starts x ≡ false → m.is_sign w x ≡ false
+not_sign (a_sign s) x h g = not_at s x h g
+not_sign (a_name n) x h g = refl
+not_sign (a_number v d u) x h g = refl
+not_sign (a_character v) x h g = refl

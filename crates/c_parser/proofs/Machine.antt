@@ -547,6 +547,10 @@ on_program at sign.Include ps = goes 0 (program (ps ++ external.Include at ∷ [
 on_program at sign.End ps = goes 0 (finished ps)
 on_program at s ps = on_declaration at s (type_of s) (at_top ps) None
 
+abbrev pub is_sign : Word → Sign → Bool
+is_sign (a_sign x) s = same x s
+is_sign _ s = false
+
 -- ---- the machine
 
 abbrev pub step : State → Lexeme → Next
@@ -555,8 +559,8 @@ step (have e fs u) t = offer (sign_of_word t.word) e fs u
 step (named at n fs u) t = on_name at n fs u (sign_of_word t.word)
 step (opened at fs u) t = on_opened at t.at t.word (type_of (sign_of_word t.word)) fs u
 step (casting at ty fs u) t = on_casting at ty (sign_of_word t.word) (joined ty (sign_of_word t.word)) fs u
-step (expect s n a) t = on (sign_of_word t.word) s (goes n a) None
-step (either s n a b) t = on (sign_of_word t.word) s (goes n a) (step b t)
+step (expect s n a) t = cond (is_sign t.word s) (goes n a) None
+step (either s n a b) t = cond (is_sign t.word s) (goes n a) (step b t)
 step (want us) t = on_want t.at t.word (sign_of_word t.word) us
 step (got x us) t = settle t.at t.word (sign_of_word t.word) x us
 step (for_first at us) t = on_first t.at t.word (sign_of_word t.word) at us

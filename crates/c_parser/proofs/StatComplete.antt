@@ -42,9 +42,9 @@ use Rattle.c_parser.proofs.Machine as m
 use Rattle.c_parser.proofs.Machine.{State, operand, have, want, got, Use, Under, step, run, Outcome, Next, goes, moved, hole, first, outer, use_hole, op_of, closes, close_use, close_block, is_block, inside, add, maybe_behind, start_behind, for_test, for_next, offer, Home, home_nesting, conclude, header, either, expect}
 use Rattle.c_parser.proofs.Trees.{at_of, stat_induction, told_block, told_declared, told_evaluate, told_if, told_if_else, told_while, told_dowhile, told_for, told_switch, told_case, told_default, told_break, told_continue, told_return}
 use Rattle.c_parser.proofs.Runs.{lex, head_sign, starts, Met, met_as, took, took_any, skip, alike, type_leaves, type_at_leaves}
-use Rattle.c_parser.proofs.ExprRuns.{Fit, fit, placed, binds, entry_open, Follow, follow_none, heads}
+use Rattle.c_parser.proofs.ExprRuns.{not_sign, Fit, fit, placed, binds, entry_open, Follow, follow_none, heads}
 use Rattle.c_parser.proofs.ExprComplete.{complete}
-use Rattle.c_parser.proofs.DeclComplete.{not_at, Opens, declaration_run, heading_run}
+use Rattle.c_parser.proofs.DeclComplete.{Opens, declaration_run, heading_run}
 
 -- ---- first words
 
@@ -292,7 +292,7 @@ module _ (T : ℕ → Bool) where
       → all_fit (maybe x ++ the_sign close ∷ more) ≡ true → (r : List Leaf) → Goal (either close (outer u) (a None) (operand [] u)) (a x) (leaves_of (maybe x ++ the_sign close ∷ more) (outer u) r) (leaves_of more (maybe_behind (outer u) x) r)
   maybe_run None u close a more hole0 op bind none self does fits r ts v mt go = took T (either close (outer u) (a None) (operand [] u)) (a None) ts v (λ q st. ap (λ b. cond b (Some (outer u, a None)) (step (operand [] u) (lex (a_sign close) q))) self) mt go
   maybe_run (Some e) u close a more hole0 op bind none self does fits r ts v mt go =
-      skip T (either close (outer u) (a None) (operand [] u)) (operand [] u) ts (λ t st. ap (λ b. cond b (Some (outer u, a None)) (step (operand [] u) t)) (not_at _ close st none)) (heads e _ _) mt
+      skip T (either close (outer u) (a None) (operand [] u)) (operand [] u) ts (λ t st. ap (λ b. cond b (Some (outer u, a None)) (step (operand [] u) t)) (not_sign t.word close st none)) (heads e _ _) mt
       ∙ value_run e u close (a (Some e)) hole0 op bind (does e) (and_parts _ _ fits).0 _ ts v mt go
 
   maybe_fits : (x : Option Expr) (ps : List Part) → all_fit (maybe x ++ ps) ≡ true → all_fit ps ≡ true

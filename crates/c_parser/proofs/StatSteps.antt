@@ -234,3 +234,143 @@ module _ (xs : Taken) (t : Lexeme) where
   first_reached : (at : At) (us : List Under) (s : Sign) → sign_of_word t.word ≡ s → Reached xs (m.for_first at us) → Stepped xs t (m.on_first t.at t.word s at us)
   first_reached at us s w p = stepped_on xs t s sign.Semicolon _ _ (λ h. test_reached _ at start.Absent us (none_at xs t _ _ sign.Semicolon _ (w ∙ h) refl p.0 (λ r. refl)) refl p.1)
       (λ h. declaration_reached s (type_of s) (m.at_start at us) _ w refl p.0 p.1 (operand_reached xs t t.word [] (m.start_ at us) refl p.0 p.1))
+
+  -- ---- declarations
+
+  more_reached : (at : At) (g : Return) (w : Word) (o : Option TypeWords) (h : Home) → t.word ≡ w → m.more_words g (sign_of_word w) ≡ o → Reached xs (m.declaring at g h) → Stepped xs t (m.on_declaring t.at at g w o h)
+  more_reached at gives.Void w (Some ty) h e j p = absurd cc
+  more_reached at (gives.Value old) w (Some ty) h e j p = (none_at xs t _ (λ r. text_home h (leaves_at at (type ty) (home_nesting h) r)) (sign_of_word w) _ (ap sign_of_word e) (joined_sign old _ ty j) p.0 (λ r. ap (λ l. text_home h l) (type_at_snoc at old _ ty (home_nesting h) r j)), p.1)
+  more_reached at g (a_name n) None h e j p = (pre_more xs _ _ t (a_name n) None _ e tt p.0 (λ r. refl), pre_more xs _ _ t (a_name n) (Some t.at) _ e refl p.0 (λ r. refl), p.1)
+  more_reached at g (a_number v d k) None h e j p = tt
+  more_reached at g (a_character v) None h e j p = tt
+  more_reached at g (a_sign x) None h e j p = tt
+
+  sized_reached : (i : Naming) (z : Size) (s : Sign) → sign_of_word t.word ≡ s → Reached xs (m.item_sized i z) → Stepped xs t (m.on_sized i z s)
+  sized_reached i z sign.Assign w p =
+      let q = none_at xs t _ (text_use (m.value_ i z)) sign.Assign _ w refl p.0 (λ r. refl) in
+      ((λ y. (by_sign _ (text_use (m.value_ i z)) (text_use (m.list_ i z [])) sign.LeftBrace _ y q (λ r. refl), (p.1, refl, p.2))), (q, (p.1, p.2)))
+  sized_reached i z s w p = item_end_step xs t i z initialiser.Absent s w p.0 p.1 refl p.2
+
+  item_named_reached : (i : Naming) (s : Sign) → sign_of_word t.word ≡ s → Reached xs (m.item_named i) → Stepped xs t (m.on_named i s)
+  item_named_reached i sign.LeftBracket w p =
+      let q = none_at xs t _ (text_use (m.size_ i)) sign.LeftBracket _ w refl p.0 (λ r. refl) in
+      ((λ y. (by_sign _ (text_use (m.size_ i)) (λ r. text_naming i (leaves_of (sized size.Absent) (home_nesting i.home) r)) sign.RightBracket _ y q (λ r. refl), refl, p.1)), (q, p.1))
+  item_named_reached i s w p = sized_reached i size.Scalar s w (p.0, refl, p.1)
+
+  declared_reached : (at : At) (g : Return) (q : At) (n : List ℕ) (h : Home) (s : Sign) → sign_of_word t.word ≡ s → Reached xs (m.declared at g q n h) → Stepped xs t (m.on_declared at g q n h s)
+  declared_reached at g q n h sign.LeftParen w p = (none_at xs t _ (text_heading (record { at = at; gives = g; name = n; home = h })) sign.LeftParen _ w refl p.0 (λ r. refl), p.2)
+  declared_reached at gives.Void q n h s w p = tt
+  declared_reached at (gives.Value ty) q n h s w p = item_named_reached (record { at = at; words = ty; done = []; home = h; item_at = q; name = n }) s w (p.1, (p.2, refl))
+
+  next_item_reached : (w : Word) (at : At) (ty : TypeWords) (is : List Item) (h : Home) → t.word ≡ w → Reached xs (m.item_next at ty is h) → Stepped xs t (m.on_next t.at w at ty is h)
+  next_item_reached (a_name n) at ty is h e p = (pre_more xs _ _ t (a_name n) (Some t.at) _ e refl p.0 (λ r. refl), (p.2, p.1))
+  next_item_reached (a_number v d k) at ty is h e p = tt
+  next_item_reached (a_character v) at ty is h e p = tt
+  next_item_reached (a_sign x) at ty is h e p = tt
+
+  -- ---- parameters
+
+  parameter_reached : (s : Sign) (o : Option TypeWords) (k : Heading) (ps : List Parameter) → sign_of_word t.word ≡ s → type_of s ≡ o → Reached xs (m.parameter_next k ps) → Stepped xs t (m.on_parameter t.at o k ps)
+  parameter_reached s None k ps w is p = tt
+  parameter_reached s (Some ty) k ps w is p = (some_at xs t _ (λ r. text_heading k (leaves_of (trail a_parameter ps) (home_nesting k.home) (leaves_at t.at (type ty) (home_nesting k.home) r))) s _ w (type_no_other s ty is) p.0 (λ r. ap (λ q. text_heading k (leaves_of (trail a_parameter ps) (home_nesting k.home) (leaves_at t.at q (home_nesting k.home) r))) (type_sign s ty is)), p.1, p.2)
+
+  parameters_reached : (k : Heading) (s : Sign) → sign_of_word t.word ≡ s → Reached xs (m.parameters_first k) → Stepped xs t (m.on_parameters t.at s k)
+  parameters_reached k sign.RightParen w p = (none_at xs t _ (text_header k parameters.Empty) sign.RightParen _ w refl p.0 (λ r. refl), refl, p.1)
+  parameters_reached k sign.Void w p = λ q. (by_sign _ (λ r. text_heading k (leaf (a_sign sign.Void) None (home_nesting k.home) ∷ r)) (text_header k parameters.Void) sign.RightParen _ q (none_at xs t _ _ sign.Void _ w refl p.0 (λ r. refl)) (λ r. refl), refl, p.1)
+  parameters_reached k s w p = parameter_reached s (type_of s) k [] w refl (p.0, refl, p.1)
+
+  parameter_end_reached : (k : Heading) (ps : List Parameter) (s : Sign) → sign_of_word t.word ≡ s → Reached xs (m.parameter_ended k ps) → Stepped xs t (m.on_parameter_end k ps s)
+  parameter_end_reached k [] s w p = absurd (none p.1)
+    where
+      none : all_fit (some {A = Parameter} [] ∷ []) ≡ true → ⊥
+      none x = absurd cc
+  parameter_end_reached k (q ∷ ps) sign.Comma w p = (none_at xs t _ (λ r. text_heading k (leaves_of (trail a_parameter (q ∷ ps)) (home_nesting k.home) r)) sign.Comma _ w refl p.0 (λ r. ap (λ l. text_heading k l) (comma_trail parameter q ps (home_nesting k.home) r)), comma_trail_fit parameter q ps p.1, p.2)
+  parameter_end_reached k (q ∷ ps) sign.RightParen w p = (none_at xs t _ (text_header k (parameters.List (q ∷ ps))) sign.RightParen _ w refl p.0 (λ r. refl), p.1, p.2)
+  parameter_end_reached k (q ∷ ps) _ w p = tt
+
+  abbrev parameter_by : At → TypeWords → Option (List ℕ) → Parameter
+  parameter_by q ty n = record { at = q; words = ty; name = n }
+
+  parameter_text : (k : Heading) (ps : List Parameter) (q : At) (ty : TypeWords) (n : Option (List ℕ)) (r : List Leaf) → text_heading k (leaves_of (commas piece (map parameter (ps ++ parameter_by q ty n ∷ []))) (home_nesting k.home) r)
+      ≡ text_heading k (leaves_of (trail a_parameter ps) (home_nesting k.home) (leaves_at q (type ty) (home_nesting k.home) (leaves_of (maybe_name n) (home_nesting k.home) r)))
+  parameter_text k ps q ty n r = ap (λ l. text_heading k l) (
+      ap (λ qs. leaves_of qs (home_nesting k.home) r) (sym (append-nil (commas piece (map parameter (ps ++ parameter_by q ty n ∷ [])))) ∙ trail_last a_parameter parameter piece (λ x. refl) ps (parameter_by q ty n) [])
+      ∙ trail_pieces parameter ps (a_parameter (parameter_by q ty n) ∷ []) (home_nesting k.home) r
+      ∙ ap (λ l. leaves_of (trail a_parameter ps) (home_nesting k.home) l) (type_at_then q ty (maybe_name n) (home_nesting k.home) r))
+
+  parameter_fits : (ps : List Parameter) (q : At) (ty : TypeWords) (n : Option (List ℕ)) → all_fit (trail a_parameter ps) ≡ true → all_fit (some (ps ++ parameter_by q ty n ∷ []) ∷ commas piece (map parameter (ps ++ parameter_by q ty n ∷ []))) ≡ true
+  parameter_fits ps q ty n h = any ps (ap all_fit (sym (append-nil (commas piece (map parameter (ps ++ parameter_by q ty n ∷ [])))) ∙ trail_last a_parameter parameter piece (λ x. refl) ps (parameter_by q ty n) []) ∙ fit_append (trail a_parameter ps) (a_parameter (parameter_by q ty n) ∷ []) h (and_from (parameter (parameter_by q ty n)).fits true (head_fit xs t q ty (maybe_name n) (name_fits n)) refl))
+    where
+      name_fits : (n : Option (List ℕ)) → all_fit (maybe_name n) ≡ true
+      name_fits None = refl
+      name_fits (Some n) = refl
+
+      any : (ps : List Parameter) → all_fit (commas piece (map parameter (ps ++ parameter_by q ty n ∷ []))) ≡ true → all_fit (some (ps ++ parameter_by q ty n ∷ []) ∷ commas piece (map parameter (ps ++ parameter_by q ty n ∷ []))) ≡ true
+      any [] h = h
+      any (x ∷ ps) h = h
+
+  typed_reached : (w : Word) (o : Option TypeWords) (k : Heading) (ps : List Parameter) (q : At) (ty : TypeWords) → t.word ≡ w → joined ty (sign_of_word w) ≡ o → Reached xs (m.parameter_typed k ps q ty) → Stepped xs t (m.on_typed w o k ps q ty)
+  typed_reached w (Some more) k ps q ty e j p = (none_at xs t _ (λ r. text_heading k (leaves_of (trail a_parameter ps) (home_nesting k.home) (leaves_at q (type more) (home_nesting k.home) r))) (sign_of_word w) _ (ap sign_of_word e) (joined_sign ty _ more j) p.0 (λ r. ap (λ l. text_heading k (leaves_of (trail a_parameter ps) (home_nesting k.home) l)) (type_at_snoc q ty _ more (home_nesting k.home) r j)), p.1, p.2)
+  typed_reached (a_name n) None k ps q ty e j p = (pre_more xs _ (λ r. text_heading k (leaves_of (commas piece (map parameter (ps ++ parameter_by q ty (Some n) ∷ []))) (home_nesting k.home) r)) t (a_name n) None _ e tt p.0 (λ r. parameter_text k ps q ty (Some n) r), parameter_fits ps q ty (Some n) p.1, p.2)
+  typed_reached (a_number v d y) None k ps q ty e j p = parameter_end_reached k _ _ (ap sign_of_word e) (pre_as xs _ _ (parameter_text k ps q ty None) p.0, parameter_fits ps q ty None p.1, p.2)
+  typed_reached (a_character v) None k ps q ty e j p = parameter_end_reached k _ _ (ap sign_of_word e) (pre_as xs _ _ (parameter_text k ps q ty None) p.0, parameter_fits ps q ty None p.1, p.2)
+  typed_reached (a_sign x) None k ps q ty e j p = parameter_end_reached k _ _ (ap sign_of_word e) (pre_as xs _ _ (parameter_text k ps q ty None) p.0, parameter_fits ps q ty None p.1, p.2)
+
+  function_text : (k : Heading) (qs : Parameters) (r : List Leaf) → text_home k.home ((declared (declaration.Function k.at k.gives k.name qs)).leaves (home_nesting k.home) r) ≡ text_header k qs (leaf (a_sign sign.Semicolon) None (home_nesting k.home) ∷ r)
+  function_text k qs r = ap (λ l. text_home k.home l) (returned_then k.at k.gives _ _ r ∙ ap (λ l. leaves_at k.at (returned k.gives) (home_nesting k.home) (leaf (a_name k.name) None (home_nesting k.home) ∷ leaf (a_sign sign.LeftParen) None (home_nesting k.home) ∷ l)) (listed_then qs _ _ r))
+
+  body_reached : (k : Heading) (qs : Parameters) (h : Home) → k.home ≡ h → sign_of_word t.word ≡ sign.LeftBrace → Reached xs (m.header k qs) → Stepped xs t (m.on_body k qs h)
+  body_reached k qs (m.at_top ps) e w p = (none_at xs t _ (text_unders (m.in_body ps k.at k.gives k.name qs [] ∷ [])) sign.LeftBrace _ w refl p.0 (λ r. sym (ap (λ h. text_home h (leaves_at k.at (returned k.gives) (home_nesting h) (leaf (a_name k.name) None (home_nesting h) ∷ leaf (a_sign sign.LeftParen) None (home_nesting h) ∷ leaves_of (listed qs) (home_nesting h) (leaf (a_sign sign.RightParen) None (home_nesting h) ∷ leaf (a_sign sign.LeftBrace) None 1 ∷ r)))) e)), (subst (λ h. ok_home h) e p.2, p.1, refl))
+  body_reached k qs (m.at_block us) e w p = tt
+  body_reached k qs (m.at_start at us) e w p = tt
+
+  header_reached : (k : Heading) (qs : Parameters) (s : Sign) → sign_of_word t.word ≡ s → Reached xs (m.header k qs) → Stepped xs t (m.on_header k qs s)
+  header_reached k qs sign.Semicolon w p = conclude_reached _ k.home (declaration.Function k.at k.gives k.name qs) (none_at xs t _ _ sign.Semicolon _ w refl p.0 (function_text k qs)) (heads_fit k.at k.gives _ (fit_append (listed qs) _ p.1 refl)) p.2
+  header_reached k qs sign.LeftBrace w p = body_reached k qs k.home refl w p
+  header_reached k qs _ w p = tt
+
+  program_reached : (ps : List External) (s : Sign) → sign_of_word t.word ≡ s → Reached xs (m.program ps) → Stepped xs t (m.on_program t.at s ps)
+  program_reached ps sign.Include w p = (some_at xs t _ (λ r. leaves_of (tops (ps ++ external.Include t.at ∷ [])) 0 r) sign.Include _ w refl p.0 (λ r. tops_snoc ps (external.Include t.at) r), tops_fit ps (external.Include t.at) p.1 refl)
+  program_reached ps sign.End w p = (none_at xs t _ _ sign.End _ w refl p.0 (λ r. refl), p.1)
+  program_reached ps s w p = declaration_reached s (type_of s) (m.at_top ps) None w refl p.0 p.1 tt
+
+  -- ---- each step
+
+  word_max : (s : Sign) → before_word s ≤ 2
+  word_max sign.Else = omega arith
+  word_max s = omega arith
+
+  -- the word that was expected
+  expected : (s : Sign) (n : ℕ) (a : State) → m.is_sign t.word s ≡ true → ((p : At) → Reached (signed xs s n p) a) → Reached (xs ++ (t, n) ∷ []) a
+  expected s n a h p = let same : lex (a_sign s) t.at ≡ t = λ i. record { word = sym (is_word t.word s h) i; at = t.at } in subst (λ l. Reached (xs ++ (l, n) ∷ []) a) same (p t.at)
+    where
+      is_word : (w : Word) (s : Sign) → m.is_sign w s ≡ true → w ≡ a_sign s
+      is_word (a_sign x) s e = ap a_sign (same_true the_type (search rules) x s e)
+      is_word (a_name n) s e = absurd cc
+      is_word (a_number v d u) s e = absurd cc
+      is_word (a_character v) s e = absurd cc
+
+  pub stepped : (s : State) → Reached xs s → Stepped xs t (step s t)
+  stepped (operand fs u) p = operand_reached xs t t.word fs u refl p.0 p.1
+  stepped (have e fs u) p = offer_reached xs t fs e u _ refl p
+  stepped (named at n fs u) p = named_reached xs t at n fs u _ refl p
+  stepped (opened at fs u) p = opened_reached xs t at _ fs u refl p.0 p.1
+  stepped (casting at ty fs u) p = casting_reached xs t at ty _ _ fs u refl refl p
+  stepped (expect s n a) p = stepped_if xs t (m.is_sign t.word s) (goes n a) None (λ h. expected s n a h p) (λ h. tt)
+  stepped (either s n a b) p = stepped_if xs t (m.is_sign t.word s) (goes n a) (step b t) (λ h. expected s n a h p.0) (λ h. stepped b p.1)
+  stepped (want us) p = want_reached us _ refl p.0 p.1
+  stepped (got x us) p = settled us x _ refl p.1 (record { text = p.0; level = omega (arith, leb-true 2 (about_statement x).level (and_parts _ _ p.2).0, word_max (sign_of_word t.word)); fits = (and_parts (nat_le 2 (about_statement x).level) (about_statement x).fits p.2).1 })
+  stepped (m.for_first at us) p = first_reached at us _ refl p
+  stepped (m.declaring at g h) p = more_reached at g t.word _ h refl refl p
+  stepped (m.declared at g q n h) p = declared_reached at g q n h _ refl p
+  stepped (m.item_named i) p = item_named_reached i _ refl p
+  stepped (m.item_sized i z) p = sized_reached i z _ refl p
+  stepped (m.item_ended at ty is h) p = ended_reached xs t at ty is h _ refl p
+  stepped (m.item_next at ty is h) p = next_item_reached t.word at ty is h refl p
+  stepped (m.parameters_first k) p = parameters_reached k _ refl p
+  stepped (m.parameter_typed k ps q ty) p = typed_reached t.word _ k ps q ty refl refl p
+  stepped (m.parameter_ended k ps) p = parameter_end_reached k ps _ refl p
+  stepped (m.parameter_next k ps) p = parameter_reached _ _ k ps refl refl p
+  stepped (m.header k qs) p = header_reached k qs _ refl p
+  stepped (m.program ps) p = program_reached ps _ refl p
+  stepped (m.finished ps) p = tt

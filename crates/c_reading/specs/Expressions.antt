@@ -169,9 +169,12 @@ module _ (T : ℕ → Bool) where
       R (after_comma (tree.Comma (place_of e) e x))
     comma_by e _ = pure e
 
+    unfoldable pub stepped_behind : Expr → StepOperator → Parser Expr
+    stepped_behind e o = counted T >> R (after_postfix (tree.After (place_of e) e o))
+
     abbrev pub postfix_by : Expr → Sign → Parser Expr
-    postfix_by e sign.Increment = counted T >> R (after_postfix (tree.After (place_of e) e step_operator.Increment))
-    postfix_by e sign.Decrement = counted T >> R (after_postfix (tree.After (place_of e) e step_operator.Decrement))
+    postfix_by e sign.Increment = stepped_behind e step_operator.Increment
+    postfix_by e sign.Decrement = stepped_behind e step_operator.Decrement
     postfix_by e _ = pure e
 
     -- one step of the reading, where R reads what is inside
@@ -207,5 +210,5 @@ module _ (T : ℕ → Bool) where
 
   -- the reading with calls at most so deep
   abbrev pub read : ℕ → Reader
-  read zero g = out
-  read (suc d) g = step (read d) g
+  read zero g n ts = out n ts
+  read (suc d) g n ts = step (read d) g n ts

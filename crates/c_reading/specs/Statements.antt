@@ -47,9 +47,9 @@ module _ (T : ℕ → Bool) where
   start_by d s = if begins_declaration s then (do
     x ← declaration T d
     pure (start_.Declared x)) else (do
-    e ← read T d expr
-    expect T sign.Semicolon
-    pure (start_.Value e))
+      e ← read T d expr
+      expect T sign.Semicolon
+      pure (start_.Value e))
 
   unfoldable pub start : ℕ → Parser Start
   start d = peek >>= start_by d

@@ -140,13 +140,19 @@ module _ (T : ℕ → Bool) where
       x ← R (binary (suc (precedence o)))
       R (after_operand k (tree.Binary (place_of e) e o x)))
 
-    abbrev pub conditional_by : Expr → Sign → Parser Expr
-    conditional_by e sign.Question = do
-      counted T
+    -- the two expressions behind a question mark
+    unfoldable pub branches : Parser (Expr × Expr)
+    branches = do
       a ← R expr
       expect T sign.Colon
       b ← R conditional
-      pure (tree.Conditional (place_of e) e a b)
+      pure (a, b)
+
+    abbrev pub conditional_by : Expr → Sign → Parser Expr
+    conditional_by e sign.Question = do
+      counted T
+      both ← branches
+      pure (tree.Conditional (place_of e) e both.0 both.1)
     conditional_by e _ = pure e
 
     abbrev pub assigned : Expr → Option AssignOperator → Parser Expr

@@ -8,10 +8,9 @@ ghost use Rattle.c_reading.specs.Expressions as spec;
 ghost use Rattle.c_reading.specs.Ahead.{Reads, ReadsAt, shallow};
 
 use crate::fault::Fault;
+use crate::nodes;
 use crate::tokens::{eat, expect, more, peek, place, wrong};
-use crate::trees::{
-    assign_operator, binary_operator, is_unary, joined, place_of, precedence, type_of,
-};
+use crate::trees::{assign_operator, binary_operator, is_unary, joined, precedence, type_of};
 use c_grammar::Sign;
 use c_tree::syntax::{Expr, StepOperator, TypeWords, UnaryOperator};
 use c_tree::{At, Token, TokenKind};
@@ -70,8 +69,7 @@ fn more_commas(
         Sign::Comma => {
             let tokens = eat(nesting, tokens)?;
             let (right, tokens) = assignment(alloc, depth - 1, nesting + 1, tokens)?;
-            let at = place_of(&e);
-            let e = Expr::Comma(at, Boxed::new(alloc, e)?, Boxed::new(alloc, right)?);
+            let e = nodes::comma(alloc, e, right)?;
             more_commas(alloc, depth - 1, e, nesting + 1, tokens)
         }
         _ => Ok((e, nesting, tokens)),
@@ -119,14 +117,11 @@ fn after_left(
             }
             let tokens = eat(nesting, tokens)?;
             let (right, tokens) = assignment(alloc, depth, nesting + 1, tokens)?;
-            let at = place_of(&e);
-            let e = Expr::Assign(
-                at,
-                Boxed::new(alloc, e)?,
-                operator,
-                Boxed::new(alloc, right)?,
-            );
-            Ok((e, nesting + 1, tokens))
+            Ok((
+                nodes::assign(alloc, e, operator, right)?,
+                nesting + 1,
+                tokens,
+            ))
         }
     }
 }
@@ -149,17 +144,34 @@ pub fn conditional(
     match peek(tokens) {
         Sign::Question => {
             let tokens = eat(nesting, tokens)?;
-            let (then, nesting, tokens) = expression(alloc, depth - 1, nesting + 1, tokens)?;
-            let tokens = expect(Sign::Colon, nesting, tokens)?;
-            let (other, nesting, tokens) = conditional(alloc, depth - 1, nesting, tokens)?;
-            let at = place_of(&test);
-            let test = Boxed::new(alloc, test)?;
-            let then = Boxed::new(alloc, then)?;
-            let e = Expr::Conditional(at, test, then, Boxed::new(alloc, other)?);
-            Ok((e, nesting, tokens))
+            let ((then, other), nesting, tokens) = branches(alloc, depth - 1, nesting + 1, tokens)?;
+            Ok((
+                nodes::conditional(alloc, test, then, other)?,
+                nesting,
+                tokens,
+            ))
         }
         _ => Ok((test, nesting, tokens)),
     }
+}
+
+/// The two expressions behind a question mark.
+#[tactic(auto, unfolding(crate::specs::Expressions::branches))]
+#[cycle(reading)]
+fn branches(
+    alloc: Global,
+    depth: usize,
+    nesting: u32,
+    tokens: &[Token],
+) -> Result<((Expr, Expr), u32, &[Token]), Fault>
+    requires { nesting ≤ 201 }
+    ensures reads { Reads (spec.branches shallow (spec.read shallow depth) nesting (lexemes tokens.now)) result }
+    ensures few { IfOk result (λ x. x.1 ≤ 201) }
+{
+    let (then, nesting, tokens) = expression(alloc, depth, nesting, tokens)?;
+    let tokens = expect(Sign::Colon, nesting, tokens)?;
+    let (other, nesting, tokens) = conditional(alloc, depth, nesting, tokens)?;
+    Ok(((then, other), nesting, tokens))
 }
 
 /// Operands and operators that bind at least so tightly.
@@ -213,13 +225,7 @@ fn more_operators(
                 nesting + 1,
                 tokens,
             )?;
-            let at = place_of(&e);
-            let e = Expr::Binary(
-                at,
-                Boxed::new(alloc, e)?,
-                operator,
-                Boxed::new(alloc, right)?,
-            );
+            let e = nodes::binary(alloc, e, operator, right)?;
             more_operators(alloc, depth - 1, least, e, nesting, tokens)
         }
     }
@@ -584,7 +590,6 @@ fn stepped_behind(
     ensures few { IfOk result (λ x. x.1 ≤ 201) }
 {
     let tokens = eat(nesting, tokens)?;
-    let at = place_of(&e);
-    let e = Expr::After(at, Boxed::new(alloc, e)?, operator);
+    let e = nodes::after(alloc, e, operator)?;
     more_steps(alloc, depth, e, nesting + 1, tokens)
 }

@@ -3,5 +3,6 @@
 
 mod expressions;
 mod fault;
+mod nodes;
 mod tokens;
 mod trees;

@@ -51,3 +51,6 @@ decreases-called l = 4 * l.depth + 1
 
 abbrev pub decreases-arguments : goal.decreases-arguments
 decreases-arguments l = 4 * l.depth
+
+abbrev pub decreases-branches : goal.decreases-branches
+decreases-branches l = 4 * l.depth + 1

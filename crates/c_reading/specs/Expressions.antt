@@ -1,5 +1,5 @@
 -- The reading of expressions (C11 6.5), by one word of lookahead.
-use Rattle.std.specs.Prelude.{ℕ, zero, suc, Bool, if◌then◌else◌, nat_lt, List, [], ◌∷◌, ◌++◌, Option, Some, None, is_some}
+use Rattle.std.specs.Prelude.{ℕ, zero, suc, Bool, if◌then◌else◌, nat_lt, List, [], ◌∷◌, ◌++◌, Option, Some, None}
 use Rattle.c_tree.specs.declared.token.At.{At}
 use Rattle.c_tree.specs.declared.syntax.Expr.{Expr}
 use Rattle.c_tree.specs.declared.syntax.Expr.TheVariants as tree
@@ -116,16 +116,20 @@ module _ (T : ℕ → Bool) where
     unary_by at sign.LeftParen = eat T >> parenthesis at
     unary_by at _ = primary at
 
+    abbrev pub cast_or_parenthesis_by : At → Option TypeWords → Parser Expr
+    cast_or_parenthesis_by at None = parenthesis at
+    cast_or_parenthesis_by at (Some first) = do
+      w ← type_words
+      expect T sign.RightParen
+      deeper
+      e ← R cast
+      pure (tree.Cast at w e)
+
     -- behind the opening parenthesis
     unfoldable pub cast_or_parenthesis : At → Parser Expr
     cast_or_parenthesis at = do
       s ← peek
-      if is_some (type_of s) then (do
-        w ← type_words
-        expect T sign.RightParen
-        deeper
-        e ← R cast
-        pure (tree.Cast at w e)) else parenthesis at
+      cast_or_parenthesis_by at (type_of s)
 
     abbrev pub cast_by : At → Sign → Parser Expr
     cast_by at sign.LeftParen = eat T >> cast_or_parenthesis at

@@ -269,17 +269,18 @@ fn cast_or_parenthesis(
     ensures reads { Reads (spec.cast_or_parenthesis shallow (spec.read shallow depth) at nesting (lexemes tokens.now)) result }
     ensures few { IfOk result (λ x. x.1 ≤ 201) }
 {
-    if type_of(peek(tokens)).is_some() {
-        let (words, tokens) = type_words(nesting, tokens)?;
-        let tokens = expect(Sign::RightParen, nesting, tokens)?;
-        let (e, nesting, tokens) = operand(alloc, depth, nesting + 1, tokens)?;
-        Ok((
-            Expr::Cast(at, words, Boxed::new(alloc, e)?),
-            nesting,
-            tokens,
-        ))
-    } else {
-        parenthesis(alloc, depth, at, nesting, tokens)
+    match type_of(peek(tokens)) {
+        None => parenthesis(alloc, depth, at, nesting, tokens),
+        Some(_) => {
+            let (words, tokens) = type_words(nesting, tokens)?;
+            let tokens = expect(Sign::RightParen, nesting, tokens)?;
+            let (e, nesting, tokens) = operand(alloc, depth, nesting + 1, tokens)?;
+            Ok((
+                Expr::Cast(at, words, Boxed::new(alloc, e)?),
+                nesting,
+                tokens,
+            ))
+        }
     }
 }
 
@@ -520,21 +521,22 @@ fn arguments(
     at: At,
     name: Items<u8>,
     nesting: u32,
-    mut tokens: &[Token],
+    tokens: &[Token],
 ) -> Result<(Expr, &[Token]), Fault>
     requires { nesting ≤ 200 }
     ensures reads { ReadsAt nesting (spec.read shallow depth (spec.in_call at name []) nesting (lexemes tokens.now)) result }
 {
     let mut arguments = Items::new(alloc);
+    let mut rest = tokens;
     while depth > 0 {
         depth -= 1;
-        let (e, rest) = assignment(alloc, depth, nesting, tokens)?;
+        let (e, behind) = assignment(alloc, depth, nesting, rest)?;
         arguments.push(e)?;
-        let (goes_on, rest) = more(Sign::RightParen, nesting, rest)?;
+        let (goes_on, behind) = more(Sign::RightParen, nesting, behind)?;
         if !goes_on {
-            return Ok((Expr::Call(at, name, arguments), rest));
+            return Ok((Expr::Call(at, name, arguments), behind));
         }
-        tokens = rest;
+        rest = behind;
     }
     Err(Fault::Out)
 }

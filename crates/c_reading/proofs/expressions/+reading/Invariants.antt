@@ -1,4 +1,7 @@
-use Rattle.std.proofs.Common.{ℕ, ◌*◌, ◌+◌}
+use Rattle.std.proofs.Common.{◌≡◌, ℕ, [], ◌*◌, ◌+◌, ◌≤◌}
+use Rattle.c_grammar.specs.Words.{lexemes}
+use Rattle.c_reading.specs.Expressions.{read, in_call}
+use Rattle.c_reading.specs.Ahead.{shallow}
 use Rattle.c_reading.proofs.expressions.+reading.Given as goal
 
 abbrev pub decreases-expression : goal.decreases-expression
@@ -54,3 +57,12 @@ decreases-arguments l = 4 * l.depth
 
 abbrev pub decreases-branches : goal.decreases-branches
 decreases-branches l = 4 * l.depth + 1
+
+abbrev pub invariant-arguments-loop-depth : goal.invariant-arguments-loop-depth
+invariant-arguments-loop-depth l = record {
+  few : l.depth ≤ l.fn.depth;
+  same : read shallow l.depth (in_call l.at l.name l.arguments) l.nesting (lexemes l.rest) ≡ read shallow l.fn.depth (in_call l.at l.name []) l.nesting (lexemes l.tokens);
+}
+
+abbrev pub decreases-arguments-loop-depth : goal.decreases-arguments-loop-depth
+decreases-arguments-loop-depth l = l.depth

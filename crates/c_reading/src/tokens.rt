@@ -91,6 +91,30 @@ pub fn name(alloc: Global, nesting: u32, tokens: &[Token]) -> Result<(Items<u8>,
     }
 }
 
+#[tactic(auto, unfolding(crate::specs::Parsers::name_if_any, crate::specs::Parsers::word_at))]
+pub fn name_if_any(
+    alloc: Global,
+    nesting: u32,
+    tokens: &[Token],
+) -> Result<(Option<Items<u8>>, &[Token]), Fault>
+    ensures { ReadsAt nesting (spec.name_if_any shallow nesting (lexemes tokens.now)) result }
+{
+    match tokens {
+        [
+            Token {
+                kind: TokenKind::Name(name),
+                ..
+            },
+            ..
+        ] => {
+            let rest = eat(nesting, tokens)?;
+            let name = Items::from_slice(alloc, name.as_slice())?;
+            Ok((Some(name), rest))
+        }
+        _ => Ok((None, tokens)),
+    }
+}
+
 /// Whether a comma stands behind an item of a list, and not the list's end.
 #[tactic(auto, unfolding(crate::specs::Parsers::more))]
 pub fn more(close: Sign, nesting: u32, tokens: &[Token]) -> Result<(bool, &[Token]), Fault>

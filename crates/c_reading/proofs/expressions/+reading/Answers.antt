@@ -1,5 +1,5 @@
 -- A reading with calls left is one step, which ends in a call.
-use Rattle.std.proofs.Common.{rules, arith}
+use Rattle.std.proofs.Common.{◌≡◌, refl, sym, rules, arith}
 use Rattle.c_grammar.specs.Words.{lexemes}
 use Rattle.c_reading.specs.Expressions as spec
 use Rattle.c_reading.specs.Ahead.{shallow}
@@ -94,13 +94,13 @@ pub unary_operand-returns-in_default-clause-reads : goal.unary_operand-returns-i
 unary_operand-returns-in_default-clause-reads t c = rw (deeper shallow c.args.depth spec.unary c.args.nesting (lexemes c.args.tokens.now) (omega arith)) (search rules)
 
 pub arguments-returns-in_err-e : goal.arguments-returns-in_err-e
-arguments-returns-in_err-e t c = ?
+arguments-returns-in_err-e t c = rw (sym c.loop-depth.invariant.same) (rw (deeper shallow c.loop-depth.depth (spec.in_call c.args.at c.loop-depth.name c.loop-depth.arguments) c.args.nesting (lexemes c.loop-depth.rest.now) (omega arith)) (search rules))
 
 pub arguments-returns-in_err-goes_on : goal.arguments-returns-in_err-goes_on
-arguments-returns-in_err-goes_on t c = ?
+arguments-returns-in_err-goes_on t c = rw (sym c.loop-depth.invariant.same) (rw (deeper shallow c.loop-depth.depth (spec.in_call c.args.at c.loop-depth.name c.loop-depth.arguments) c.args.nesting (lexemes c.loop-depth.rest.now) (omega arith)) (search rules))
 
 pub arguments-returns-then-not-goes_on : goal.arguments-returns-then-not-goes_on
-arguments-returns-then-not-goes_on t c = ?
+arguments-returns-then-not-goes_on t c = rw (sym c.loop-depth.invariant.same) (rw (deeper shallow c.loop-depth.depth (spec.in_call c.args.at c.loop-depth.name c.loop-depth.arguments) c.args.nesting (lexemes c.loop-depth.rest.now) (omega arith)) (search rules))
 
 pub arguments-returns : goal.arguments-returns
-arguments-returns t c = ?
+arguments-returns t c = let none : c.loop-depth.depth ≡ 0 = omega arith in rw (sym c.loop-depth.invariant.same) (rw none (record { reads = refl }))

@@ -61,7 +61,7 @@ decreases-branches l = 4 * l.depth + 1
 abbrev pub invariant-arguments-loop-depth : goal.invariant-arguments-loop-depth
 invariant-arguments-loop-depth l = record {
   few : l.depth ≤ l.fn.depth;
-  same : read shallow l.depth (in_call l.at l.name l.arguments) l.nesting (lexemes l.rest) ≡ read shallow l.fn.depth (in_call l.at l.name []) l.nesting (lexemes l.tokens);
+  same : read shallow l.depth (in_call l.at l.name l.arguments) l.nesting (lexemes l.rest) ≡ read shallow l.fn.depth (in_call l.at l.fn.name []) l.nesting (lexemes l.tokens);
 }
 
 abbrev pub decreases-arguments-loop-depth : goal.decreases-arguments-loop-depth

@@ -15,15 +15,12 @@ use Rattle.c_tree.specs.declared.syntax.Parameters.{Parameters}
 use Rattle.c_tree.specs.declared.syntax.Parameters.TheVariants as parameters_
 use Rattle.c_tree.specs.declared.syntax.Declaration.{Declaration}
 use Rattle.c_tree.specs.declared.syntax.Declaration.TheVariants as declaration_
+use Rattle.c_reading.specs.declared.declarations.Opening.{Opening}
+use Rattle.c_reading.specs.declared.declarations.Opening.TheVariants as opening_
 use Rattle.c_grammar.specs.declared.sign.Sign.{Sign}
 use Rattle.c_grammar.specs.declared.sign.Sign.TheVariants as sign
 use Rattle.c_reading.specs.Parsers.{Parser, ◌>>=◌, ◌>>◌, pure, out, peek, place, same, phrase, eat, expect, name, name_if_any, more}
 use Rattle.c_reading.specs.Expressions.{Reader, assign, conditional, type_words, read}
-
--- objects with their semicolon, or a function up to its closing parenthesis
-pub data Opening : Type 0 where
-  declares : Declaration → Opening
-  heads : At → Return → List ℕ → Parameters → Opening
 
 module _ (T : ℕ → Bool) where
   -- ---- declared names
@@ -133,13 +130,17 @@ module _ (T : ℕ → Bool) where
   heading d at r n = do
     expect T sign.LeftParen
     ps ← parameters d
-    pure (heads at r n ps)
+    pure (opening_.Function at r n ps)
 
-  abbrev pub typed_by : ℕ → At → TypeWords → At → List ℕ → Sign → Parser Opening
-  typed_by d at w p n sign.LeftParen = heading d at (return_.Value w) n
-  typed_by d at w p n _ = do
-    is ← objects d p n
-    pure (declares (declaration_.Objects at w is))
+  -- behind the type of a declaration
+  unfoldable pub typed_opening : ℕ → At → TypeWords → Parser Opening
+  typed_opening d at w = do
+    p ← place
+    n ← name T
+    s ← peek
+    if same s sign.LeftParen then heading d at (return_.Value w) n else (do
+      is ← objects d p n
+      pure (opening_.Objects (declaration_.Objects at w is)))
 
   abbrev pub opening_by : ℕ → At → Sign → Parser Opening
   opening_by d at sign.Void = do
@@ -148,10 +149,7 @@ module _ (T : ℕ → Bool) where
     heading d at return_.Void n
   opening_by d at _ = do
     w ← type_words T
-    p ← place
-    n ← name T
-    s ← peek
-    typed_by d at w p n s
+    typed_opening d at w
 
   unfoldable pub opening : ℕ → Parser Opening
   opening d = do
@@ -160,8 +158,8 @@ module _ (T : ℕ → Bool) where
     opening_by d at s
 
   abbrev pub declared : Opening → Parser Declaration
-  declared (declares x) = pure x
-  declared (heads at r n ps) = do
+  declared (opening_.Objects x) = pure x
+  declared (opening_.Function at r n ps) = do
     expect T sign.Semicolon
     pure (declaration_.Function at r n ps)
 

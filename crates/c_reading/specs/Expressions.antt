@@ -1,5 +1,5 @@
 -- The reading of expressions (C11 6.5), by one word of lookahead.
-use Rattle.std.specs.Prelude.{ℕ, zero, suc, Bool, if◌then◌else◌, nat_lt, List, [], ◌∷◌, ◌++◌, Option, Some, None, is_some}
+use Rattle.std.specs.Prelude.{ℕ, zero, suc, Bool, if◌then◌else◌, nat_lt, List, [], ◌∷◌, ◌++◌, Option, Some, None}
 use Rattle.c_tree.specs.declared.token.At.{At}
 use Rattle.c_tree.specs.declared.syntax.Expr.{Expr}
 use Rattle.c_tree.specs.declared.syntax.Expr.TheVariants as tree
@@ -116,16 +116,20 @@ module _ (T : ℕ → Bool) where
     unary_by at sign.LeftParen = eat T >> parenthesis at
     unary_by at _ = primary at
 
+    abbrev pub cast_or_parenthesis_by : At → Option TypeWords → Parser Expr
+    cast_or_parenthesis_by at None = parenthesis at
+    cast_or_parenthesis_by at (Some first) = do
+      w ← type_words
+      expect T sign.RightParen
+      deeper
+      e ← R cast
+      pure (tree.Cast at w e)
+
     -- behind the opening parenthesis
     unfoldable pub cast_or_parenthesis : At → Parser Expr
     cast_or_parenthesis at = do
       s ← peek
-      if is_some (type_of s) then (do
-        w ← type_words
-        expect T sign.RightParen
-        deeper
-        e ← R cast
-        pure (tree.Cast at w e)) else parenthesis at
+      cast_or_parenthesis_by at (type_of s)
 
     abbrev pub cast_by : At → Sign → Parser Expr
     cast_by at sign.LeftParen = eat T >> cast_or_parenthesis at
@@ -140,13 +144,19 @@ module _ (T : ℕ → Bool) where
       x ← R (binary (suc (precedence o)))
       R (after_operand k (tree.Binary (place_of e) e o x)))
 
-    abbrev pub conditional_by : Expr → Sign → Parser Expr
-    conditional_by e sign.Question = do
-      counted T
+    -- the two expressions behind a question mark
+    unfoldable pub branches : Parser (Expr × Expr)
+    branches = do
       a ← R expr
       expect T sign.Colon
       b ← R conditional
-      pure (tree.Conditional (place_of e) e a b)
+      pure (a, b)
+
+    abbrev pub conditional_by : Expr → Sign → Parser Expr
+    conditional_by e sign.Question = do
+      counted T
+      both ← branches
+      pure (tree.Conditional (place_of e) e both.0 both.1)
     conditional_by e _ = pure e
 
     abbrev pub assigned : Expr → Option AssignOperator → Parser Expr
@@ -169,9 +179,12 @@ module _ (T : ℕ → Bool) where
       R (after_comma (tree.Comma (place_of e) e x))
     comma_by e _ = pure e
 
+    unfoldable pub stepped_behind : Expr → StepOperator → Parser Expr
+    stepped_behind e o = counted T >> R (after_postfix (tree.After (place_of e) e o))
+
     abbrev pub postfix_by : Expr → Sign → Parser Expr
-    postfix_by e sign.Increment = counted T >> R (after_postfix (tree.After (place_of e) e step_operator.Increment))
-    postfix_by e sign.Decrement = counted T >> R (after_postfix (tree.After (place_of e) e step_operator.Decrement))
+    postfix_by e sign.Increment = stepped_behind e step_operator.Increment
+    postfix_by e sign.Decrement = stepped_behind e step_operator.Decrement
     postfix_by e _ = pure e
 
     -- one step of the reading, where R reads what is inside
@@ -207,5 +220,5 @@ module _ (T : ℕ → Bool) where
 
   -- the reading with calls at most so deep
   abbrev pub read : ℕ → Reader
-  read zero g = out
-  read (suc d) g = step (read d) g
+  read zero g n ts = out n ts
+  read (suc d) g n ts = step (read d) g n ts

@@ -42,16 +42,20 @@ out = λ n ts. Err Out
 
 -- ---- the next word
 
-abbrev pub word_at : List Lexeme → Word
+unfoldable pub word_at : List Lexeme → Word
 word_at [] = a_sign sign.End
 word_at (x ∷ xs) = x.word
 
-abbrev pub place_at : List Lexeme → At
+unfoldable pub place_at : List Lexeme → At
 place_at [] = record { line = 0; column = 0 }
 place_at (x ∷ xs) = x.at
 
+unfoldable pub sign_at : List Lexeme → Sign
+sign_at [] = sign.End
+sign_at (x ∷ xs) = sign_of_word x.word
+
 abbrev pub peek : Parser Sign
-peek = λ n ts. Ok (sign_of_word (word_at ts), n, ts)
+peek = λ n ts. Ok (sign_at ts, n, ts)
 
 abbrev pub place : Parser At
 place = λ n ts. Ok (place_at ts, n, ts)

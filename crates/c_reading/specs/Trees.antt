@@ -29,7 +29,7 @@ place_in (Character at v) = at
 place_in (Paren at e) = at
 
 -- the place of an expression's first token
-abbrev pub place_of : Expr → At
+unfoldable pub place_of : Expr → At
 place_of e = place_in (out-Expr e)
 
 abbrev pub is_unary_in : {A : Type 0} → Expr-F A → Bool
@@ -41,10 +41,10 @@ is_unary_in (Cast at w e) = false
 is_unary_in _ = true
 
 -- a unary expression (C11 6.5.3), which may stand on the left of an assignment
-abbrev pub is_unary : Expr → Bool
+unfoldable pub is_unary : Expr → Bool
 is_unary e = is_unary_in (out-Expr e)
 
-abbrev pub binary_of : Sign → Option BinaryOperator
+unfoldable pub binary_of : Sign → Option BinaryOperator
 binary_of sign.LogicalOr = Some binary.LogicalOr
 binary_of sign.LogicalAnd = Some binary.LogicalAnd
 binary_of sign.Bar = Some binary.Or
@@ -65,7 +65,7 @@ binary_of sign.Slash = Some binary.Divide
 binary_of sign.Percent = Some binary.Remainder
 binary_of _ = None
 
-abbrev pub assign_of : Sign → Option AssignOperator
+unfoldable pub assign_of : Sign → Option AssignOperator
 assign_of sign.Assign = Some assign.Plain
 assign_of sign.AssignAdd = Some assign.Add
 assign_of sign.AssignSubtract = Some assign.Subtract
@@ -80,7 +80,7 @@ assign_of sign.AssignShiftRight = Some assign.ShiftRight
 assign_of _ = None
 
 -- the type that the word alone stands for
-abbrev pub type_of : Sign → Option TypeWords
+unfoldable pub type_of : Sign → Option TypeWords
 type_of sign.Char = Some words.Char
 type_of sign.Int = Some words.Int
 type_of sign.Signed = Some words.Signed
@@ -88,7 +88,7 @@ type_of sign.Unsigned = Some words.Unsigned
 type_of _ = None
 
 -- the type with this word behind it
-abbrev pub joined : TypeWords → Sign → Option TypeWords
+unfoldable pub joined : TypeWords → Sign → Option TypeWords
 joined words.Char sign.Signed = Some words.CharSigned
 joined words.Char sign.Unsigned = Some words.CharUnsigned
 joined words.Int sign.Signed = Some words.IntSigned
@@ -100,7 +100,7 @@ joined words.Unsigned sign.Int = Some words.UnsignedInt
 joined _ _ = None
 
 -- a declaration begins with this word
-abbrev pub begins_declaration : Sign → Bool
+unfoldable pub begins_declaration : Sign → Bool
 begins_declaration sign.Void = true
 begins_declaration sign.Char = true
 begins_declaration sign.Int = true

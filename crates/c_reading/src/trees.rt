@@ -5,10 +5,11 @@ ghost use Rattle.c_grammar.specs.Operators.{precedence};
 ghost use Rattle.c_reading.specs.Trees as spec;
 
 use c_grammar::Sign;
-use c_tree::syntax::{AssignOperator, BinaryOperator, Expr, TypeWords};
 use c_tree::At;
+use c_tree::syntax::{AssignOperator, BinaryOperator, Expr, TypeWords};
 
 /// The place of an expression's first token.
+#[tactic(auto, unfolding(crate::specs::Trees::place_of))]
 pub fn place_of(e: &Expr) -> At
     ensures { result ≡ spec.place_of e.now }
 {
@@ -31,6 +32,7 @@ pub fn place_of(e: &Expr) -> At
 }
 
 /// Whether it is a unary expression (C11 6.5.3), which may stand on the left of an assignment.
+#[tactic(auto, unfolding(crate::specs::Trees::is_unary))]
 pub fn is_unary(e: &Expr) -> bool
     ensures { result ≡ spec.is_unary e.now }
 {
@@ -65,6 +67,7 @@ pub fn precedence(operator: BinaryOperator) -> u32
     }
 }
 
+#[tactic(auto, unfolding(crate::specs::Trees::binary_of))]
 pub fn binary_operator(sign: Sign) -> Option<BinaryOperator>
     ensures { result ≡ spec.binary_of sign }
 {
@@ -91,6 +94,7 @@ pub fn binary_operator(sign: Sign) -> Option<BinaryOperator>
     }
 }
 
+#[tactic(auto, unfolding(crate::specs::Trees::assign_of))]
 pub fn assign_operator(sign: Sign) -> Option<AssignOperator>
     ensures { result ≡ spec.assign_of sign }
 {
@@ -111,6 +115,7 @@ pub fn assign_operator(sign: Sign) -> Option<AssignOperator>
 }
 
 /// The type that the word alone stands for.
+#[tactic(auto, unfolding(crate::specs::Trees::type_of))]
 pub fn type_of(sign: Sign) -> Option<TypeWords>
     ensures { result ≡ spec.type_of sign }
 {
@@ -124,6 +129,7 @@ pub fn type_of(sign: Sign) -> Option<TypeWords>
 }
 
 /// The type with this word behind it.
+#[tactic(auto, unfolding(crate::specs::Trees::joined))]
 pub fn joined(words: TypeWords, sign: Sign) -> Option<TypeWords>
     ensures { result ≡ spec.joined words sign }
 {
@@ -141,6 +147,7 @@ pub fn joined(words: TypeWords, sign: Sign) -> Option<TypeWords>
 }
 
 /// Whether a declaration begins with this word.
+#[tactic(auto, unfolding(crate::specs::Trees::begins_declaration))]
 pub fn begins_declaration(sign: Sign) -> bool
     ensures { result ≡ spec.begins_declaration sign }
 {

@@ -27,7 +27,7 @@ use Rattle.c_grammar.specs.Phrases.{Leaf, leaf, Said, Part, sub, stands, is_at, 
 use Rattle.c_grammar.specs.Grammar.{about, type, assign, sized, initialised, last_comma, declarator, returned, maybe_name, parameter, listed, called, declared}
 use Rattle.c_grammar.specs.Spelling.{Stands}
 use Rattle.c_reading.specs.Parsers.{Wrong, Deep, same}
-use Rattle.c_reading.specs.Trees.{place_of, type_of, joined}
+use Rattle.c_parser.proofs.Asked.{place_of, type_of, joined}
 use Rattle.c_parser.proofs.Machine as m
 use Rattle.c_parser.proofs.Machine.{State, operand, have, Use, step, run, Outcome, Next, goes, moved, hole, first, op_of, takes, close_use, offer, Home, Naming, Heading, home_nesting, conclude, item_named, item_sized, item_ended, item_next, item_end, item_of, value_after, parameters_first, parameter_typed, parameter_ended, parameter_next, header, declaring, either, expect}
 use Rattle.c_parser.proofs.Runs.{lex, head_sign, starts, Met, met_as, took, took_any, skip, alike, typed, Typing, type_leaves, type_of_leaves, type_at_leaves}

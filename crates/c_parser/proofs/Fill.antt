@@ -26,7 +26,7 @@ use Rattle.c_grammar.specs.Phrases as m2
 use Rattle.c_grammar.specs.Grammar.{about, expression, type, assign}
 use Rattle.c_grammar.specs.Spelling.{Stands}
 use Rattle.c_reading.specs.Parsers.{Wrong, Deep, same}
-use Rattle.c_reading.specs.Trees.{place_of, type_of, joined}
+use Rattle.c_parser.proofs.Asked.{place_of, type_of, joined}
 use Rattle.c_parser.proofs.Machine as m
 use Rattle.c_parser.proofs.Machine.{Frame, Use, use_hole, hole, opens, entered, spot, first, fill}
 use Rattle.c_parser.proofs.Trees.{at_of, said_comma, said_assign, said_conditional, said_binary, said_cast, said_unary, said_before, said_after, said_name, said_element, said_call, said_number, said_character, said_paren}

@@ -1,3 +1,4 @@
+mod Asked
 mod Machine
 mod Trees
 mod Runs

@@ -37,7 +37,7 @@ use Rattle.c_grammar.specs.Operators.{precedence}
 use Rattle.c_grammar.specs.Phrases.{Said, entry, behind}
 use Rattle.c_grammar.specs.Grammar.{about}
 use Rattle.c_reading.specs.Parsers.{Trouble, Wrong, Deep, Out, same}
-use Rattle.c_reading.specs.Trees.{place_of, type_of, joined}
+use Rattle.c_parser.proofs.Asked.{place_of, type_of, joined}
 
 -- ---- what stands open
 

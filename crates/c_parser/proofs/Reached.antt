@@ -39,7 +39,7 @@ use Rattle.c_tree.specs.declared.syntax.External.TheVariants as external
 use Rattle.c_tree.specs.declared.syntax.Syntax.{Syntax}
 use Rattle.c_grammar.specs.Spelling.{Stands}
 use Rattle.c_reading.specs.Parsers.{Wrong, Deep, same}
-use Rattle.c_reading.specs.Trees.{place_of, type_of, joined}
+use Rattle.c_parser.proofs.Asked.{place_of, type_of, joined}
 use Rattle.c_parser.proofs.Machine as m
 use Rattle.c_parser.proofs.Machine.{Frame, State, operand, have, named, opened, casting, want, got, Use, Under, Home, Naming, Heading, step, Next, goes, hole, opens, entered, spot, first, outer, use_hole, Op, op_of, own, left, is_op, takes, push, fill, shut, offer, close_use, close_block, is_block, inside, add, maybe_behind, start_behind, for_test, for_next, home_nesting, conclude, either, expect, item_of, item_end, value_after}
 use Rattle.c_parser.proofs.Trees.{at_of, said_name, said_element, said_call, said_number, said_character, said_paren, said_after, told_block, told_declared, told_evaluate, told_if, told_if_else, told_while, told_dowhile, told_for, told_switch, told_case, told_default, told_break, told_continue, told_return}

@@ -12,7 +12,7 @@ use Rattle.c_grammar.specs.Phrases.{Leaf, leaf, Said, Part, stands, is_at, same_
 use Rattle.c_grammar.specs.Grammar.{about, type}
 use Rattle.c_grammar.specs.Spelling.{Stands}
 use Rattle.c_reading.specs.Parsers.{Wrong, Deep}
-use Rattle.c_reading.specs.Trees.{place_of, type_of, joined}
+use Rattle.c_parser.proofs.Asked.{place_of, type_of, joined}
 use Rattle.c_parser.proofs.Machine.{State, step, run, Outcome, Next, moved, at_end}
 use Rattle.c_parser.proofs.Trees.{at_of}
 

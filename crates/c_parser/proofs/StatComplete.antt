@@ -37,7 +37,7 @@ use Rattle.c_tree.specs.declared.syntax.External.TheVariants as external
 use Rattle.c_tree.specs.declared.syntax.Syntax.{Syntax}
 use Rattle.c_grammar.specs.Spelling.{Stands}
 use Rattle.c_reading.specs.Parsers.{Wrong, Deep, same}
-use Rattle.c_reading.specs.Trees.{place_of, type_of, joined}
+use Rattle.c_parser.proofs.Asked.{place_of, type_of, joined}
 use Rattle.c_parser.proofs.Machine as m
 use Rattle.c_parser.proofs.Machine.{State, operand, have, want, got, Use, Under, step, run, Outcome, Next, goes, moved, hole, first, outer, use_hole, op_of, closes, close_use, close_block, is_block, inside, add, maybe_behind, start_behind, for_test, for_next, offer, Home, home_nesting, conclude, header, either, expect}
 use Rattle.c_parser.proofs.Trees.{at_of, stat_induction, told_block, told_declared, told_evaluate, told_if, told_if_else, told_while, told_dowhile, told_for, told_switch, told_case, told_default, told_break, told_continue, told_return}

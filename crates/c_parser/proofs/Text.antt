@@ -19,7 +19,7 @@ use Rattle.c_grammar.specs.Words.{Word, a_name, a_sign, Lexeme}
 use Rattle.c_grammar.specs.Operators.{precedence, binary_sign, assign_sign, unary_sign, step_sign}
 use Rattle.c_grammar.specs.Phrases.{Leaf, leaf, Said, Part, the, mark, sub, open_, expr, item, piece, some, commas, stands, entry, behind, leaves_of, leaves_at, all_fit, the_sign, operator, name, each}
 use Rattle.c_grammar.specs.Grammar.{about, type, assign, constant, value, maybe, started, condition, sized, declarator, returned, parameter, listed, called, about_statement, part}
-use Rattle.c_reading.specs.Trees.{place_of}
+use Rattle.c_parser.proofs.Asked.{place_of}
 use Rattle.c_parser.proofs.Machine.{Frame, unary, before, cast, binary, question, colon, comma, paren, element, arguments, Under, in_block, in_if, in_else, in_while, in_do, in_for, in_switch, in_case, in_default, in_body, Home, at_top, at_block, at_start, Naming, Heading, Use, evaluate, if_, while_, switch_, start_, return_, case_, do_, test_, next_, size_, value_, list_, home_nesting, start_behind, maybe_behind, inside, outer, use_hole, hole, opens, entered, spot, first}
 use Rattle.c_parser.proofs.Machine as m
 

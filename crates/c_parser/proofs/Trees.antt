@@ -23,7 +23,7 @@ use Rattle.c_tree.specs.declared.syntax.Start.{Start}
 use Rattle.c_tree.specs.declared.syntax.Statement.TheFolds.{fold-roll-Statement, ind-Statement, map-Statement}
 use Rattle.c_grammar.specs.Phrases.{Said}
 use Rattle.c_grammar.specs.Grammar.{expression, about, statement, about_statement}
-use Rattle.c_reading.specs.Trees.{place_of}
+use Rattle.c_parser.proofs.Asked.{place_of}
 
 -- ---- expressions
 

@@ -11,3 +11,4 @@ mod Fill
 mod Reached
 mod Steps
 mod StatSteps
+mod Ends

@@ -136,7 +136,7 @@ module _ (xs : Taken) (t : Lexeme) where
   stat_first : (us : List Under) (at : At) (s : Sign) → sign_of_word t.word ≡ s → same s sign.Other ≡ false → t.at ≡ at → Pre xs (text_unders us) → Pre (xs ++ (t, suc (inside us)) ∷ []) (λ r. text_unders us (leaf (a_sign s) (Some at) (suc (inside us)) ∷ r))
   stat_first us at s w o is p = some_at xs t (text_unders us) _ s _ w o p (λ r. ap (λ q. text_unders us (leaf (a_sign s) (Some q) (suc (inside us)) ∷ r)) (sym is))
 
-  statement_reached : (s : Sign) (us : List Under) → sign_of_word t.word ≡ s → Pre xs (text_unders us) → ok_unders us → Stepped xs t (m.on_statement t.at t.word s us)
+  pub statement_reached : (s : Sign) (us : List Under) → sign_of_word t.word ≡ s → Pre xs (text_unders us) → ok_unders us → Stepped xs t (m.on_statement t.at t.word s us)
   statement_reached sign.LeftBrace us w p ok = (some_at xs t _ (text_unders (m.in_block t.at [] ∷ us)) sign.LeftBrace _ w refl p (λ r. refl), (refl, ok))
   statement_reached sign.Semicolon us w p ok = (some_at xs t _ (Stat_text (tree_.Evaluate t.at None) us) sign.Semicolon _ w refl p (λ r. ap (λ (s : Said). text_unders us (s.leaves (suc (inside us)) r)) (told_evaluate t.at None)), ok, ap (λ (s : Said). stands 2 s) (told_evaluate t.at None))
   statement_reached sign.If us w p ok = λ q. (by_sign _ _ (text_use (m.if_ t.at us)) sign.LeftParen _ q (stat_first us t.at sign.If w refl refl p) (λ r. refl), ok)
@@ -172,7 +172,7 @@ module _ (xs : Taken) (t : Lexeme) where
   defined_fit : (at : At) (g : Return) (n : List ℕ) (qs : Parameters) (ss : List Statement) → all_fit (listed qs) ≡ true → ok_items ss → (part (external.Defined at g n qs ss)).fits ≡ true
   defined_fit at g n qs ss h k = heads_fit at g _ (fit_append (listed qs) _ h (and_from _ _ (fit_append (items ss) (the_sign sign.RightBrace ∷ []) k refl) refl))
 
-  close_reached : (us : List Under) → sign_of_word t.word ≡ sign.RightBrace → Pre xs (text_unders us) → ok_unders us → Stepped xs t (close_block us)
+  pub close_reached : (us : List Under) → sign_of_word t.word ≡ sign.RightBrace → Pre xs (text_unders us) → ok_unders us → Stepped xs t (close_block us)
   close_reached [] w p ok = tt
   close_reached (m.in_block at ss ∷ us) w p ok = (none_at xs t _ (Stat_text (tree_.Block at ss) us) sign.RightBrace _ w refl p (λ r. ap (λ (s : Said). text_unders us (s.leaves (suc (inside us)) r)) (told_block at ss) ∙ ap (λ l. text_unders us (leaf (a_sign sign.LeftBrace) (Some at) (suc (suc (inside us))) ∷ l)) (each_items about_statement ss (the_sign sign.RightBrace ∷ []) (suc (suc (inside us))) r)), ok.1,
       ap (λ (s : Said). stands 2 s) (told_block at ss) ∙ and_from _ _ (same_self at) (and_from _ _ (fit_append (items ss) (the_sign sign.RightBrace ∷ []) ok.0 refl) refl))
@@ -274,7 +274,7 @@ module _ (xs : Taken) (t : Lexeme) where
   parameter_reached s None k ps w is p = tt
   parameter_reached s (Some ty) k ps w is p = (some_at xs t _ (λ r. text_heading k (leaves_of (trail a_parameter ps) (home_nesting k.home) (leaves_at t.at (type ty) (home_nesting k.home) r))) s _ w (type_no_other s ty is) p.0 (λ r. ap (λ q. text_heading k (leaves_of (trail a_parameter ps) (home_nesting k.home) (leaves_at t.at q (home_nesting k.home) r))) (type_sign s ty is)), p.1, p.2)
 
-  parameters_reached : (k : Heading) (s : Sign) → sign_of_word t.word ≡ s → Reached xs (m.parameters_first k) → Stepped xs t (m.on_parameters t.at s k)
+  pub parameters_reached : (k : Heading) (s : Sign) → sign_of_word t.word ≡ s → Reached xs (m.parameters_first k) → Stepped xs t (m.on_parameters t.at s k)
   parameters_reached k sign.RightParen w p = (none_at xs t _ (text_header k parameters.Empty) sign.RightParen _ w refl p.0 (λ r. refl), refl, p.1)
   parameters_reached k sign.Void w p = λ q. (by_sign _ (λ r. text_heading k (leaf (a_sign sign.Void) None (home_nesting k.home) ∷ r)) (text_header k parameters.Void) sign.RightParen _ q (none_at xs t _ _ sign.Void _ w refl p.0 (λ r. refl)) (λ r. refl), refl, p.1)
   parameters_reached k s w p = parameter_reached s (type_of s) k [] w refl (p.0, refl, p.1)
@@ -324,7 +324,7 @@ module _ (xs : Taken) (t : Lexeme) where
   body_reached k qs (m.at_block us) e w p = tt
   body_reached k qs (m.at_start at us) e w p = tt
 
-  header_reached : (k : Heading) (qs : Parameters) (s : Sign) → sign_of_word t.word ≡ s → Reached xs (m.header k qs) → Stepped xs t (m.on_header k qs s)
+  pub header_reached : (k : Heading) (qs : Parameters) (s : Sign) → sign_of_word t.word ≡ s → Reached xs (m.header k qs) → Stepped xs t (m.on_header k qs s)
   header_reached k qs sign.Semicolon w p = conclude_reached _ k.home (declaration.Function k.at k.gives k.name qs) (none_at xs t _ _ sign.Semicolon _ w refl p.0 (function_text k qs)) (heads_fit k.at k.gives _ (fit_append (listed qs) _ p.1 refl)) p.2
   header_reached k qs sign.LeftBrace w p = body_reached k qs k.home refl w p
   header_reached k qs _ w p = tt

@@ -379,7 +379,7 @@ module _ (xs : Taken) (t : Lexeme) where
 
   -- ---- the next word behind an expression
 
-  filled_reached : (f : Frame) (e : Expr) (fs : List Frame) (u : Use) → Reached xs (have e (f ∷ fs) u) → ((r : List Leaf) → ending f fs u e r ≡ r) → Reached xs (have (fill f e) fs u)
+  pub filled_reached : (f : Frame) (e : Expr) (fs : List Frame) (u : Use) → Reached xs (have e (f ∷ fs) u) → ((r : List Leaf) → ending f fs u e r ≡ r) → Reached xs (have (fill f e) fs u)
   filled_reached f e fs u p h = (pre_as xs _ _ (λ r. filled_text e f fs u r p.1 ∙ ap (λ l. text_have e (f ∷ fs) u l) (h r)) p.0, filled_ok e f fs u p.1)
 
   shut_reached : (f : Frame) (e : Expr) (fs : List Frame) (u : Use) (s : Sign) (more : Next) → sign_of_word t.word ≡ s → Reached xs (have e (f ∷ fs) u) → (Reached xs (have (fill f e) fs u) → Stepped xs t more) → Stepped xs t (shut f e fs u s more)

@@ -47,7 +47,7 @@ use Rattle.c_parser.proofs.Machine.{Frame, State, operand, have, named, opened, 
 use Rattle.c_parser.proofs.Trees.{at_of, said_name, said_element, said_call, said_number, said_character, said_paren, said_after, told_block, told_declared, told_evaluate, told_if, told_if_else, told_while, told_dowhile, told_for, told_switch, told_case, told_default, told_break, told_continue, told_return}
 use Rattle.c_parser.proofs.Runs.{lex}
 use Rattle.c_parser.proofs.ExprRuns.{prec_high}
-use Rattle.c_parser.proofs.DeclComplete.{joined_other}
+use Rattle.c_parser.proofs.DeclComplete.{joined_other, joined_close}
 use Rattle.c_parser.proofs.Fill.{trail_last, trail_snoc, fit_append, at_self, same_self, lead_first, hole_low, stands_it, text_have, Ok_have, filled_text, filled_ok}
 use Rattle.c_parser.proofs.Text.{trail, argument, object, a_parameter, items, tops, text_unders, ok_items, ok_unders, text_home, ok_home, text_type, text_naming, ok_naming, text_heading, text_use, ok_use, place, begun, text_frames, ok_frames, low, lead, ending}
 
@@ -140,9 +140,19 @@ done_filled (m.in_do at ∷ us) xs x ok f =
     let p3 : (q : At) → Reached (signed (xs3 ++ (sign_token sign.RightParen, b) ∷ []) sign.Semicolon b q) (got (tree_.DoWhile at x e) us) = next xs3 (sign_token sign.RightParen) (have e [] (m.do_ at x us)) p2 in
     let xs4 : Taken = signed (xs3 ++ (sign_token sign.RightParen, b) ∷ []) sign.Semicolon b at in
     fewer xs _ (fewer xs1 _ (fewer xs2 _ (fewer xs3 _ (fewer (xs3 ++ (sign_token sign.RightParen, b) ∷ []) _ (done_filled us xs4 (tree_.DoWhile at x e) ok.1 (got_filled xs4 _ us (p3 at)))))))
-done_filled (m.in_block at ss ∷ us) xs x ok f = let p = next xs (sign_token sign.RightBrace) _ (filled_block xs (m.in_block at ss ∷ us) x refl ok f) in fewer xs _ (done_filled us _ _ ok.1 (got_filled _ _ us p))
-done_filled (m.in_switch at e ss ∷ us) xs x ok f = let p = next xs (sign_token sign.RightBrace) _ (filled_block xs (m.in_switch at e ss ∷ us) x refl ok f) in fewer xs _ (done_filled us _ _ ok.2 (got_filled _ _ us p))
-done_filled (m.in_body ps at g n qs ss ∷ us) xs x ok f = let p = next xs (sign_token sign.RightBrace) _ (filled_block xs (m.in_body ps at g n qs ss ∷ us) x refl ok f) in fewer xs _ (done_program _ _ p)
+done_filled (m.in_block at ss ∷ us) xs x ok f =
+    let t : Lexeme × ℕ = (sign_token sign.RightBrace, suc (suc (inside us))) in
+    let p : Reached (xs ++ t ∷ []) (got (tree_.Block at (ss ++ x ∷ [])) us) = next xs (sign_token sign.RightBrace) (want (add x (m.in_block at ss ∷ us))) (filled_block xs (m.in_block at ss ∷ us) x refl ok f) in
+    fewer xs (t ∷ []) (done_filled us (xs ++ t ∷ []) (tree_.Block at (ss ++ x ∷ [])) ok.1 (got_filled (xs ++ t ∷ []) (tree_.Block at (ss ++ x ∷ [])) us p))
+done_filled (m.in_switch at e ss ∷ us) xs x ok f =
+    let t : Lexeme × ℕ = (sign_token sign.RightBrace, suc (behind (suc (inside us)) (about e))) in
+    let p : Reached (xs ++ t ∷ []) (got (tree_.Switch at e (ss ++ x ∷ [])) us) = next xs (sign_token sign.RightBrace) (want (add x (m.in_switch at e ss ∷ us))) (filled_block xs (m.in_switch at e ss ∷ us) x refl ok f) in
+    fewer xs (t ∷ []) (done_filled us (xs ++ t ∷ []) (tree_.Switch at e (ss ++ x ∷ [])) ok.2 (got_filled (xs ++ t ∷ []) (tree_.Switch at e (ss ++ x ∷ [])) us p))
+done_filled (m.in_body ps at g n qs ss ∷ us) xs x ok f =
+    let t : Lexeme × ℕ = (sign_token sign.RightBrace, 1) in
+    let qss : List External = ps ++ external.Defined at g n qs (ss ++ x ∷ []) ∷ [] in
+    let p : Reached (xs ++ t ∷ []) (m.program qss) = next xs (sign_token sign.RightBrace) (want (add x (m.in_body ps at g n qs ss ∷ us))) (filled_block xs (m.in_body ps at g n qs ss ∷ us) x refl ok f) in
+    fewer xs (t ∷ []) (done_program (xs ++ t ∷ []) qss p)
 
 done_got : (xs : Taken) (x : Statement) (us : List Under) → Reached xs (got x us) → Done xs
 done_got xs x us p = done_filled us xs x p.1 (got_filled xs x us p)
@@ -154,3 +164,127 @@ done_want xs us p = fewer xs ((sign_token sign.Semicolon, suc (inside us)) ∷ [
   level = omega (arith, ap (λ (s : Said). s.level) (told_evaluate (record { line = 1; column = 1 }) None));
   fits = ap (λ (s : Said). s.fits) (told_evaluate (record { line = 1; column = 1 }) None);
 }))
+
+-- the header of a for
+done_next : (xs : Taken) (at : At) (b : Start) (y : Option Expr) (us : List Under) → Reached xs (for_next at b y us) → Done xs
+done_next xs at b y us p = let n = maybe_behind (start_behind (suc (inside us)) b) y in fewer xs ((lex (a_sign sign.RightParen) at, n) ∷ []) (done_want (signed xs sign.RightParen n at) (m.in_for at b y None ∷ us) (p.0 at))
+
+done_test : (xs : Taken) (at : At) (b : Start) (us : List Under) → Reached xs (for_test at b us) → Done xs
+done_test xs at b us p = let n = start_behind (suc (inside us)) b in fewer xs ((lex (a_sign sign.Semicolon) at, n) ∷ []) (done_next (signed xs sign.Semicolon n at) at b None us (p.0 at))
+
+done_conclude : (xs : Taken) (h : Home) (d : Declaration) → Reached xs (conclude h d) → Done xs
+done_conclude xs (m.at_top ps) d p = done_program xs (ps ++ external.Declared d ∷ []) p
+done_conclude xs (m.at_block us) d p = done_want xs (add (tree_.Declared d) us) p
+done_conclude xs (m.at_start at us) d p = done_test xs at (start.Declared d) us p
+
+done_ended : (xs : Taken) (at : At) (ty : TypeWords) (is : List Item) (h : Home) → Reached xs (m.item_ended at ty is h) → Done xs
+done_ended xs at ty is h p = fewer xs ((sign_token sign.Semicolon, home_nesting h) ∷ []) (done_conclude (xs ++ (sign_token sign.Semicolon, home_nesting h) ∷ []) h (declaration.Objects at ty is) (next xs (sign_token sign.Semicolon) (m.item_ended at ty is h) p))
+
+done_header : (xs : Taken) (k : Heading) (qs : Parameters) → Reached xs (m.header k qs) → Done xs
+done_header xs k qs p = fewer xs ((sign_token sign.Semicolon, home_nesting k.home) ∷ []) (done_conclude (xs ++ (sign_token sign.Semicolon, home_nesting k.home) ∷ []) k.home (declaration.Function k.at k.gives k.name qs) (next xs (sign_token sign.Semicolon) (m.header k qs) p))
+
+done_parameters : (xs : Taken) (k : Heading) → Reached xs (m.parameters_first k) → Done xs
+done_parameters xs k p = fewer xs ((sign_token sign.RightParen, home_nesting k.home) ∷ []) (done_header (xs ++ (sign_token sign.RightParen, home_nesting k.home) ∷ []) k parameters.Empty (next xs (sign_token sign.RightParen) (m.parameters_first k) p))
+
+done_parameter_end : (xs : Taken) (k : Heading) (ps : List Parameter) → Reached xs (m.parameter_ended k ps) → Done xs
+done_parameter_end xs k ps p = fewer xs ((sign_token sign.RightParen, home_nesting k.home) ∷ []) (done_header (xs ++ (sign_token sign.RightParen, home_nesting k.home) ∷ []) k (parameters.List ps) (next xs (sign_token sign.RightParen) (m.parameter_ended k ps) p))
+
+done_parameter : (xs : Taken) (k : Heading) (ps : List Parameter) (at : At) (ty : TypeWords) → Reached xs (m.parameter_typed k ps at ty) → Done xs
+done_parameter xs k ps at ty p =
+    let qs : List Parameter = ps ++ record { at = at; words = ty; name = Some [] } ∷ [] in
+    fewer xs ((name_token, home_nesting k.home) ∷ []) (done_parameter_end (xs ++ (name_token, home_nesting k.home) ∷ []) k qs (subst (λ y. Stepped xs name_token (m.on_typed (a_name []) y k ps at ty)) (joined_other ty) (next xs name_token (m.parameter_typed k ps at ty) p)))
+
+done_parameter_next : (xs : Taken) (k : Heading) (ps : List Parameter) → Reached xs (m.parameter_next k ps) → Done xs
+done_parameter_next xs k ps p = fewer xs ((sign_token sign.Int, home_nesting k.home) ∷ []) (done_parameter (xs ++ (sign_token sign.Int, home_nesting k.home) ∷ []) k ps (record { line = 1; column = 1 }) words.Int (next xs (sign_token sign.Int) (m.parameter_next k ps) p))
+
+done_declared : (xs : Taken) (at : At) (g : Return) (q : At) (n : List ℕ) (h : Home) → Reached xs (m.declared at g q n h) → Done xs
+done_declared xs at g q n h p = fewer xs ((sign_token sign.LeftParen, home_nesting h) ∷ []) (done_parameters (xs ++ (sign_token sign.LeftParen, home_nesting h) ∷ []) (record { at = at; gives = g; name = n; home = h }) (next xs (sign_token sign.LeftParen) (m.declared at g q n h) p))
+
+done_declaring : (xs : Taken) (at : At) (g : Return) (h : Home) → Reached xs (m.declaring at g h) → Done xs
+done_declaring xs at g h p = fewer xs ((name_token, home_nesting h) ∷ []) (done_declared (xs ++ (name_token, home_nesting h) ∷ []) at g (record { line = 1; column = 1 }) [] h (subst (λ y. Stepped xs name_token (m.on_declaring (record { line = 1; column = 1 }) at g (a_name []) y h)) (no_more g) (next xs name_token (m.declaring at g h) p)))
+  where
+    no_more : (g : Return) → m.more_words g sign.Other ≡ None
+    no_more gives.Void = refl
+    no_more (gives.Value ty) = joined_other ty
+
+done_sized : (xs : Taken) (i : Naming) (z : Size) → Reached xs (m.item_sized i z) → Done xs
+done_sized xs i z p = done_ended xs i.at i.words (i.done ++ item_of i z initialiser.Absent ∷ []) i.home (item_end_reached xs i z initialiser.Absent p.0 p.1 refl p.2)
+
+done_named : (xs : Taken) (i : Naming) → Reached xs (m.item_named i) → Done xs
+done_named xs i p = done_sized xs i size.Scalar (p.0, refl, p.1)
+
+done_next_item : (xs : Taken) (at : At) (ty : TypeWords) (is : List Item) (h : Home) → Reached xs (m.item_next at ty is h) → Done xs
+done_next_item xs at ty is h p = fewer xs ((name_token, home_nesting h) ∷ []) (done_named (xs ++ (name_token, home_nesting h) ∷ []) (record { at = at; words = ty; done = is; home = h; item_at = record { line = 1; column = 1 }; name = [] }) (next xs name_token (m.item_next at ty is h) p))
+
+-- an expression that is read for a use
+done_use : (u : Use) (xs : Taken) (e : Expr) → Reached xs (have e [] u) → Done xs
+done_use (m.evaluate us) xs e p = let t : Lexeme × ℕ = (sign_token sign.Semicolon, behind (suc (inside us)) (about e)) in fewer xs (t ∷ []) (done_got (xs ++ t ∷ []) (tree_.Evaluate (place_of e) (Some e)) us (next xs t.0 (have e [] (m.evaluate us)) p))
+done_use (m.if_ at us) xs e p = let t : Lexeme × ℕ = (sign_token sign.RightParen, behind (suc (inside us)) (about e)) in fewer xs (t ∷ []) (done_want (xs ++ t ∷ []) (m.in_if at e ∷ us) (next xs t.0 (have e [] (m.if_ at us)) p))
+done_use (m.while_ at us) xs e p = let t : Lexeme × ℕ = (sign_token sign.RightParen, behind (suc (inside us)) (about e)) in fewer xs (t ∷ []) (done_want (xs ++ t ∷ []) (m.in_while at e ∷ us) (next xs t.0 (have e [] (m.while_ at us)) p))
+done_use (m.switch_ at us) xs e p =
+    let n = behind (suc (inside us)) (about e) in
+    let t : Lexeme × ℕ = (sign_token sign.RightParen, n) in
+    let q : (y : At) → Reached (signed (xs ++ t ∷ []) sign.LeftBrace (suc n) y) (want (m.in_switch at e [] ∷ us)) = next xs t.0 (have e [] (m.switch_ at us)) p in
+    fewer xs (t ∷ []) (fewer (xs ++ t ∷ []) ((lex (a_sign sign.LeftBrace) at, suc n) ∷ []) (done_want (signed (xs ++ t ∷ []) sign.LeftBrace (suc n) at) (m.in_switch at e [] ∷ us) (q at)))
+done_use (m.start_ at us) xs e p = let t : Lexeme × ℕ = (sign_token sign.Semicolon, behind (suc (inside us)) (about e)) in fewer xs (t ∷ []) (done_test (xs ++ t ∷ []) at (start.Value e) us (next xs t.0 (have e [] (m.start_ at us)) p))
+done_use (m.return_ at us) xs e p = let t : Lexeme × ℕ = (sign_token sign.Semicolon, behind (suc (inside us)) (about e)) in fewer xs (t ∷ []) (done_got (xs ++ t ∷ []) (tree_.Return at (Some e)) us (next xs t.0 (have e [] (m.return_ at us)) p))
+done_use (m.case_ at us) xs e p = let t : Lexeme × ℕ = (sign_token sign.Colon, suc (inside us)) in fewer xs (t ∷ []) (done_want (xs ++ t ∷ []) (m.in_case at e ∷ us) (next xs t.0 (have e [] (m.case_ at us)) p))
+done_use (m.do_ at x us) xs e p =
+    let n = behind (suc (inside us)) (about e) in
+    let t : Lexeme × ℕ = (sign_token sign.RightParen, n) in
+    let q : (y : At) → Reached (signed (xs ++ t ∷ []) sign.Semicolon n y) (got (tree_.DoWhile at x e) us) = next xs t.0 (have e [] (m.do_ at x us)) p in
+    fewer xs (t ∷ []) (fewer (xs ++ t ∷ []) ((lex (a_sign sign.Semicolon) at, n) ∷ []) (done_got (signed (xs ++ t ∷ []) sign.Semicolon n at) (tree_.DoWhile at x e) us (q at)))
+done_use (m.test_ at b us) xs e p = let t : Lexeme × ℕ = (sign_token sign.Semicolon, behind (start_behind (suc (inside us)) b) (about e)) in fewer xs (t ∷ []) (done_next (xs ++ t ∷ []) at b (Some e) us (next xs t.0 (have e [] (m.test_ at b us)) p))
+done_use (m.next_ at b y us) xs e p = let t : Lexeme × ℕ = (sign_token sign.RightParen, behind (maybe_behind (start_behind (suc (inside us)) b) y) (about e)) in fewer xs (t ∷ []) (done_want (xs ++ t ∷ []) (m.in_for at b y (Some e) ∷ us) (next xs t.0 (have e [] (m.next_ at b y us)) p))
+done_use (m.size_ i) xs e p = let t : Lexeme × ℕ = (sign_token sign.RightBracket, home_nesting i.home) in fewer xs (t ∷ []) (done_sized (xs ++ t ∷ []) i (size.Given e) (next xs t.0 (have e [] (m.size_ i)) p))
+done_use (m.value_ i z) xs e p = let t : Lexeme × ℕ = (sign_token sign.Semicolon, home_nesting i.home) in fewer xs (t ∷ []) (done_conclude (xs ++ t ∷ []) i.home (declaration.Objects i.at i.words (i.done ++ item_of i z (initialiser.Value e) ∷ [])) (next xs t.0 (have e [] (m.value_ i z)) p))
+done_use (m.list_ i z es) xs e p = let t : Lexeme × ℕ = (sign_token sign.RightBrace, home_nesting i.home) in fewer xs (t ∷ []) (done_ended (xs ++ t ∷ []) i.at i.words (i.done ++ item_of i z (initialiser.List (es ++ e ∷ []) false) ∷ []) i.home (next xs t.0 (have e [] (m.list_ i z es)) p))
+
+-- an expression in what lacks one
+done_have : (fs : List Frame) (u : Use) (xs : Taken) (e : Expr) → Reached xs (have e fs u) → Done xs
+done_have [] u xs e p = done_use u xs e p
+done_have (m.unary at o ∷ fs) u xs e p = done_have fs u xs (fill (m.unary at o) e) (filled_reached xs name_token (m.unary at o) e fs u p (λ r. refl))
+done_have (m.before at o ∷ fs) u xs e p = done_have fs u xs (fill (m.before at o) e) (filled_reached xs name_token (m.before at o) e fs u p (λ r. refl))
+done_have (m.cast at ty ∷ fs) u xs e p = done_have fs u xs (fill (m.cast at ty) e) (filled_reached xs name_token (m.cast at ty) e fs u p (λ r. refl))
+done_have (m.binary a o ∷ fs) u xs e p = done_have fs u xs (fill (m.binary a o) e) (filled_reached xs name_token (m.binary a o) e fs u p (λ r. refl))
+done_have (m.assign a o ∷ fs) u xs e p = done_have fs u xs (fill (m.assign a o) e) (filled_reached xs name_token (m.assign a o) e fs u p (λ r. refl))
+done_have (m.colon c a ∷ fs) u xs e p = done_have fs u xs (fill (m.colon c a) e) (filled_reached xs name_token (m.colon c a) e fs u p (λ r. refl))
+done_have (m.comma a ∷ fs) u xs e p = done_have fs u xs (fill (m.comma a) e) (filled_reached xs name_token (m.comma a) e fs u p (λ r. refl))
+done_have (m.question c ∷ fs) u xs e p =
+    let t : Lexeme × ℕ = (sign_token sign.Colon, behind (suc (first fs u + (about c).marks)) (about e)) in
+    let q : Reached (xs ++ t ∷ []) (operand (m.colon c e ∷ fs) u) = next xs t.0 (have e (m.question c ∷ fs) u) p in
+    let xs2 : Taken = (xs ++ t ∷ []) ++ (name_token, first (m.colon c e ∷ fs) u) ∷ [] in
+    let y : Expr = tree.Name (record { line = 1; column = 1 }) [] in
+    let o : Reached xs2 (have (fill (m.colon c e) y) fs u) = filled_reached xs2 name_token (m.colon c e) y fs u (operand_have (xs ++ t ∷ []) (m.colon c e ∷ fs) u q) (λ r. refl) in
+    fewer xs (t ∷ []) (fewer (xs ++ t ∷ []) ((name_token, first (m.colon c e ∷ fs) u) ∷ []) (done_have fs u xs2 (fill (m.colon c e) y) o))
+done_have (m.paren at ∷ fs) u xs e p = let t : Lexeme × ℕ = (sign_token sign.RightParen, behind (first fs u) (about e)) in fewer xs (t ∷ []) (done_have fs u (xs ++ t ∷ []) (tree.Paren at e) (next xs t.0 (have e (m.paren at ∷ fs) u) p))
+done_have (m.element at n ∷ fs) u xs e p = let t : Lexeme × ℕ = (sign_token sign.RightBracket, behind (first fs u) (about e)) in fewer xs (t ∷ []) (done_have fs u (xs ++ t ∷ []) (tree.Element at n e) (next xs t.0 (have e (m.element at n ∷ fs) u) p))
+done_have (m.arguments at n es ∷ fs) u xs e p = let t : Lexeme × ℕ = (sign_token sign.RightParen, first fs u) in fewer xs (t ∷ []) (done_have fs u (xs ++ t ∷ []) (tree.Call at n (es ++ e ∷ [])) (next xs t.0 (have e (m.arguments at n es ∷ fs) u) p))
+
+done_operand : (xs : Taken) (fs : List Frame) (u : Use) → Reached xs (operand fs u) → Done xs
+done_operand xs fs u p = fewer xs ((name_token, first fs u) ∷ []) (done_have fs u (xs ++ (name_token, first fs u) ∷ []) (tree.Name (record { line = 1; column = 1 }) []) (operand_have xs fs u p))
+
+pub done : (s : State) (xs : Taken) → Reached xs s → Done xs
+done (operand fs u) xs p = done_operand xs fs u p
+done (have e fs u) xs p = done_have fs u xs e p
+done (m.named at n fs u) xs p = done_have fs u xs (tree.Name at n) (named_have xs at n fs u p)
+done (m.opened at fs u) xs p = done_operand xs (m.paren at ∷ fs) u (p.0, (refl, omega (arith, hole_max fs u), p.1))
+done (m.casting at ty fs u) xs p = fewer xs ((sign_token sign.RightParen, first fs u) ∷ []) (done_operand (xs ++ (sign_token sign.RightParen, first fs u) ∷ []) (m.cast at ty ∷ fs) u (subst (λ y. Stepped xs (sign_token sign.RightParen) (m.on_casting at ty sign.RightParen y fs u)) (joined_close ty) (next xs (sign_token sign.RightParen) (m.casting at ty fs u) p)))
+done (expect s n a) xs p = fewer xs ((lex (a_sign s) (record { line = 1; column = 1 }), n) ∷ []) (done a (signed xs s n (record { line = 1; column = 1 })) (p (record { line = 1; column = 1 })))
+done (either s n a b) xs p = done b xs p.1
+done (want us) xs p = done_want xs us p
+done (got x us) xs p = done_got xs x us p
+done (m.for_first at us) xs p = done_operand xs [] (m.start_ at us) p
+done (m.declaring at g h) xs p = done_declaring xs at g h p
+done (m.declared at g q n h) xs p = done_declared xs at g q n h p
+done (m.item_named i) xs p = done_named xs i p
+done (m.item_sized i z) xs p = done_sized xs i z p
+done (m.item_ended at ty is h) xs p = done_ended xs at ty is h p
+done (m.item_next at ty is h) xs p = done_next_item xs at ty is h p
+done (m.parameters_first k) xs p = done_parameters xs k p
+done (m.parameter_typed k ps q ty) xs p = done_parameter xs k ps q ty p
+done (m.parameter_ended k ps) xs p = done_parameter_end xs k ps p
+done (m.parameter_next k ps) xs p = done_parameter_next xs k ps p
+done (m.header k qs) xs p = done_header xs k qs p
+done (m.program ps) xs p = done_program xs ps p
+done (m.finished ps) xs p = done_finished xs ps p

@@ -12,3 +12,4 @@ mod Reached
 mod Steps
 mod StatSteps
 mod Ends
+mod Whole

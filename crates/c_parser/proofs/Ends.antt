@@ -92,7 +92,7 @@ sign_token s = lex (a_sign s) (record { line = 1; column = 1 })
 abbrev name_token : Lexeme
 name_token = lex (a_name []) (record { line = 1; column = 1 })
 
-each_end : (ps : List External) (r : List Leaf) → leaves_of (tops ps ++ the_sign sign.End ∷ []) 0 r ≡ leaves_of (tops ps) 0 (leaf (a_sign sign.End) None 0 ∷ r)
+pub each_end : (ps : List External) (r : List Leaf) → leaves_of (tops ps ++ the_sign sign.End ∷ []) 0 r ≡ leaves_of (tops ps) 0 (leaf (a_sign sign.End) None 0 ∷ r)
 each_end ps r = go ps
   where
     go : (ps : List External) → leaves_of (tops ps ++ the_sign sign.End ∷ []) 0 r ≡ leaves_of (tops ps) 0 (leaf (a_sign sign.End) None 0 ∷ r)

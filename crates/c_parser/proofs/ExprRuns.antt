@@ -242,6 +242,7 @@ not_at s x h g = go (same s x) refl
     go true e = absurd (no_true (sym g ∙ (ap starts (sym (same_true the_type (search rules) s x e)) ∙ h)))
 
 pub not_sign : (w : Word) (x : Sign) → starts (sign_of_word w) ≡ true → starts x ≡ false → m.is_sign w x ≡ false
+not_sign (a_sign sign.End) x h g = refl
 not_sign (a_sign s) x h g = not_at s x h g
 not_sign (a_name n) x h g = refl
 not_sign (a_number v d u) x h g = refl

@@ -547,7 +547,9 @@ on_program at sign.Include ps = goes 0 (program (ps ++ external.Include at ∷ [
 on_program at sign.End ps = goes 0 (finished ps)
 on_program at s ps = on_declaration at s (type_of s) (at_top ps) None
 
+-- the end is never expected
 abbrev pub is_sign : Word → Sign → Bool
+is_sign (a_sign sign.End) s = false
 is_sign (a_sign x) s = same x s
 is_sign _ s = false
 

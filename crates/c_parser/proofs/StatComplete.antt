@@ -288,7 +288,7 @@ module _ (T : ℕ → Bool) where
   condition_run e u s2 more hole0 does fits r ts v mt go = took T (expect sign.LeftParen (outer u) (operand [] u)) (operand [] u) ts v (λ q st. refl) mt
       (λ vs mv. value_run e u sign.RightParen s2 hole0 refl refl does fits _ vs v mv go)
 
-  maybe_run : (x : Option Expr) (u : Use) (close : Sign) (a : Option Expr → State) (more : List Part) → use_hole u ≡ 0 → op_of close ≡ closes → binds close ≡ 0 → starts close ≡ false → same close close ≡ true → ((e : Expr) → close_use u e close ≡ Some (behind (outer u) (about e), a (Some e)))
+  maybe_run : (x : Option Expr) (u : Use) (close : Sign) (a : Option Expr → State) (more : List Part) → use_hole u ≡ 0 → op_of close ≡ closes → binds close ≡ 0 → starts close ≡ false → m.is_sign (a_sign close) close ≡ true → ((e : Expr) → close_use u e close ≡ Some (behind (outer u) (about e), a (Some e)))
       → all_fit (maybe x ++ the_sign close ∷ more) ≡ true → (r : List Leaf) → Goal (either close (outer u) (a None) (operand [] u)) (a x) (leaves_of (maybe x ++ the_sign close ∷ more) (outer u) r) (leaves_of more (maybe_behind (outer u) x) r)
   maybe_run None u close a more hole0 op bind none self does fits r ts v mt go = took T (either close (outer u) (a None) (operand [] u)) (a None) ts v (λ q st. ap (λ b. cond b (Some (outer u, a None)) (step (operand [] u) (lex (a_sign close) q))) self) mt go
   maybe_run (Some e) u close a more hole0 op bind none self does fits r ts v mt go =

@@ -345,6 +345,7 @@ module _ (xs : Taken) (t : Lexeme) where
   expected s n a h p = let same : lex (a_sign s) t.at ≡ t = λ i. record { word = sym (is_word t.word s h) i; at = t.at } in subst (λ l. Reached (xs ++ (l, n) ∷ []) a) same (p t.at)
     where
       is_word : (w : Word) (s : Sign) → m.is_sign w s ≡ true → w ≡ a_sign s
+      is_word (a_sign sign.End) s e = absurd cc
       is_word (a_sign x) s e = ap a_sign (same_true the_type (search rules) x s e)
       is_word (a_name n) s e = absurd cc
       is_word (a_number v d u) s e = absurd cc

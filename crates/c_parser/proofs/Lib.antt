@@ -13,3 +13,4 @@ mod Steps
 mod StatSteps
 mod Ends
 mod Whole
+mod Sim

@@ -1,0 +1,393 @@
+-- The reading of an expression does what the machine does.
+use denote.Hole.Carrier
+use Rattle.c_tree.specs.declared.syntax.Expr.{out-Expr}
+use denote.Enum.Bare.{same_true}
+use Rattle.c_grammar.specs.contracts.sign.Sign.{the_type}
+use Rattle.std.proofs.Common.{rules, ◌≡◌, ℕ, ℤ, zero, suc, ◌+◌, ◌<◌, ◌≤◌, Bool, true, false, cond, nat_le, ◌==◌, ◌&&◌, List, [], ◌∷◌, ◌++◌, length, map, Option, Some, None, Ok, Err, refl, sym, ap, subst, ◌∙◌, append_assoc, arith}
+use Rattle.std.proofs.lemmas.Bool.{and_parts, leb-true, le-leb, leb-false, and_from}
+use Rattle.std.proofs.lemmas.Bool.Decides.{nat_tests}
+use Rattle.std.proofs.lemmas.List.{append-nil}
+use Rattle.c_tree.specs.declared.token.At.{At}
+use Rattle.c_tree.specs.declared.syntax.TypeWords.{TypeWords}
+use Rattle.c_tree.specs.declared.syntax.TypeWords.TheVariants as words
+use Rattle.c_tree.specs.declared.syntax.BinaryOperator.{BinaryOperator}
+use Rattle.c_tree.specs.declared.syntax.BinaryOperator.TheVariants as binary_
+use Rattle.c_tree.specs.declared.syntax.AssignOperator.{AssignOperator}
+use Rattle.c_tree.specs.declared.syntax.AssignOperator.TheVariants as assign_
+use Rattle.c_tree.specs.declared.syntax.UnaryOperator.{UnaryOperator}
+use Rattle.c_tree.specs.declared.syntax.UnaryOperator.TheVariants as unary_
+use Rattle.c_tree.specs.declared.syntax.StepOperator.{StepOperator}
+use Rattle.c_tree.specs.declared.syntax.StepOperator.TheVariants as step_
+use Rattle.c_tree.specs.declared.syntax.Expr.{Expr}
+use Rattle.c_tree.specs.declared.syntax.Expr.TheVariants as tree
+use Rattle.c_tree.specs.declared.syntax.Expr.TheOpen.{Expr-F, Comma, Assign, Conditional, Binary, Cast, Unary, Before, After, Name, Element, Call, Number, Character, Paren}
+use Rattle.c_grammar.specs.declared.sign.Sign.{Sign}
+use Rattle.c_grammar.specs.declared.sign.Sign.TheVariants as sign
+use Rattle.c_grammar.specs.Words.{Word, a_name, a_number, a_character, a_sign, sign_of_word, Lexeme}
+use Rattle.c_grammar.specs.Operators.{precedence, binary_sign, assign_sign, unary_sign, step_sign}
+use Rattle.c_grammar.specs.Phrases.{Leaf, leaf, Said, Part, sub, stands, is_at, same_place, entry, behind, leaves_of, leaves_at, all_fit, commas, the_sign, operator}
+use Rattle.c_grammar.specs.Grammar.{about, expression, type, assign}
+use Rattle.c_grammar.specs.Spelling.{Stands}
+use Rattle.c_reading.specs.Parsers.{Trouble, Wrong, Deep, Out, same, Read, Parser, ◌>>=◌, ◌>>◌, and_then, pure, wrong, out, peek, word_at, place_at, sign_at, eat, expect, more, deeper, counted, phrase}
+use Rattle.c_reading.specs.Expressions as r
+use Rattle.c_reading.specs.Trees as q
+use Rattle.c_parser.proofs.Asked.{place_of, type_of, joined}
+use Rattle.c_parser.proofs.Machine as m
+use Rattle.c_parser.proofs.Machine.{State, operand, have, named, opened, casting, Frame, Use, step, run, Outcome, Next, goes, moved, at_end, hole, opens, entered, spot, first, Op, op_of, own, left, is_op, takes, push, fill, shut, offer, close_use}
+use Rattle.c_parser.proofs.Trees.{induction, said_comma, said_assign, said_conditional, said_binary, said_cast, said_unary, said_before, said_after, said_name, said_element, said_call, said_number, said_character, said_paren, place_comma, place_assign, place_conditional, place_binary, place_cast, place_unary, place_before, place_after, place_name, place_element, place_call, place_number, place_character, place_paren}
+use Rattle.c_parser.proofs.ExprRuns.{prec_low, prec_high, passes, pushed, never, entry_open, open_hole}
+use Rattle.c_parser.proofs.Runs.{lex}
+use Rattle.c_parser.proofs.Reached.{word_is}
+
+-- ---- the reading's questions
+
+pub same_place_of : (e : Expr) → q.place_of e ≡ place_of e
+unfolding q.place_of
+same_place_of e = refl
+
+pub same_type_of : (s : Sign) → q.type_of s ≡ type_of s
+unfolding q.type_of
+same_type_of s = refl
+
+pub same_joined : (t : TypeWords) (s : Sign) → q.joined t s ≡ joined t s
+unfolding q.joined
+same_joined t s = refl
+
+pub binary_some : (s : Sign) (o : BinaryOperator) → q.binary_of s ≡ Some o → op_of s ≡ m.joins o
+unfolding q.binary_of
+binary_some sign.LogicalOr o e = let f : binary_.LogicalOr ≡ o = cc in ap (λ x. m.joins x) f
+binary_some sign.LogicalAnd o e = let f : binary_.LogicalAnd ≡ o = cc in ap (λ x. m.joins x) f
+binary_some sign.Bar o e = let f : binary_.Or ≡ o = cc in ap (λ x. m.joins x) f
+binary_some sign.Caret o e = let f : binary_.Xor ≡ o = cc in ap (λ x. m.joins x) f
+binary_some sign.Ampersand o e = let f : binary_.And ≡ o = cc in ap (λ x. m.joins x) f
+binary_some sign.Equal o e = let f : binary_.Equal ≡ o = cc in ap (λ x. m.joins x) f
+binary_some sign.NotEqual o e = let f : binary_.NotEqual ≡ o = cc in ap (λ x. m.joins x) f
+binary_some sign.Less o e = let f : binary_.Less ≡ o = cc in ap (λ x. m.joins x) f
+binary_some sign.Greater o e = let f : binary_.Greater ≡ o = cc in ap (λ x. m.joins x) f
+binary_some sign.LessEqual o e = let f : binary_.LessEqual ≡ o = cc in ap (λ x. m.joins x) f
+binary_some sign.GreaterEqual o e = let f : binary_.GreaterEqual ≡ o = cc in ap (λ x. m.joins x) f
+binary_some sign.ShiftLeft o e = let f : binary_.ShiftLeft ≡ o = cc in ap (λ x. m.joins x) f
+binary_some sign.ShiftRight o e = let f : binary_.ShiftRight ≡ o = cc in ap (λ x. m.joins x) f
+binary_some sign.Plus o e = let f : binary_.Add ≡ o = cc in ap (λ x. m.joins x) f
+binary_some sign.Minus o e = let f : binary_.Subtract ≡ o = cc in ap (λ x. m.joins x) f
+binary_some sign.Star o e = let f : binary_.Multiply ≡ o = cc in ap (λ x. m.joins x) f
+binary_some sign.Slash o e = let f : binary_.Divide ≡ o = cc in ap (λ x. m.joins x) f
+binary_some sign.Percent o e = let f : binary_.Remainder ≡ o = cc in ap (λ x. m.joins x) f
+binary_some _ o e = absurd cc
+
+pub binary_none : (s : Sign) (o : BinaryOperator) → q.binary_of s ≡ None → op_of s ≡ m.joins o → ⊥
+unfolding q.binary_of
+binary_none sign.LogicalOr o e h = absurd cc
+binary_none _ o e h = absurd cc
+
+pub assign_some : (s : Sign) (o : AssignOperator) → q.assign_of s ≡ Some o → op_of s ≡ m.assigns o
+unfolding q.assign_of
+assign_some sign.Assign o e = let f : assign_.Plain ≡ o = cc in ap (λ x. m.assigns x) f
+assign_some sign.AssignAdd o e = let f : assign_.Add ≡ o = cc in ap (λ x. m.assigns x) f
+assign_some sign.AssignSubtract o e = let f : assign_.Subtract ≡ o = cc in ap (λ x. m.assigns x) f
+assign_some sign.AssignMultiply o e = let f : assign_.Multiply ≡ o = cc in ap (λ x. m.assigns x) f
+assign_some sign.AssignDivide o e = let f : assign_.Divide ≡ o = cc in ap (λ x. m.assigns x) f
+assign_some sign.AssignRemainder o e = let f : assign_.Remainder ≡ o = cc in ap (λ x. m.assigns x) f
+assign_some sign.AssignAnd o e = let f : assign_.And ≡ o = cc in ap (λ x. m.assigns x) f
+assign_some sign.AssignXor o e = let f : assign_.Xor ≡ o = cc in ap (λ x. m.assigns x) f
+assign_some sign.AssignOr o e = let f : assign_.Or ≡ o = cc in ap (λ x. m.assigns x) f
+assign_some sign.AssignShiftLeft o e = let f : assign_.ShiftLeft ≡ o = cc in ap (λ x. m.assigns x) f
+assign_some sign.AssignShiftRight o e = let f : assign_.ShiftRight ≡ o = cc in ap (λ x. m.assigns x) f
+assign_some _ o e = absurd cc
+
+pub assign_none : (s : Sign) (o : AssignOperator) → q.assign_of s ≡ None → op_of s ≡ m.assigns o → ⊥
+unfolding q.assign_of
+assign_none sign.Assign o e h = absurd cc
+assign_none _ o e h = absurd cc
+
+level_by : (e : Expr) (S : Said) (b : Bool) → about e ≡ S → nat_le 14 S.level ≡ b → nat_le 14 (about e).level ≡ b
+level_by e S b is h = ap (λ (s : Said). nat_le 14 s.level) is ∙ h
+
+low_prec : (o : BinaryOperator) → nat_le 14 (precedence o) ≡ false
+low_prec binary_.LogicalOr = refl
+low_prec _ = refl
+
+pub unary_is : (e : Expr) → q.is_unary e ≡ nat_le 14 (about e).level
+unfolding q.is_unary out-Expr denote.Hole.Carrier.out
+unary_is = induction (λ e. q.is_unary e ≡ nat_le 14 (about e).level) (record {
+  comma_ = λ at a b ha hb. sym (level_by _ _ false (said_comma at a b) refl);
+  assign_ = λ at a o b ha hb. sym (level_by _ _ false (said_assign at a o b) refl);
+  conditional_ = λ at a b c ha hb hc. sym (level_by _ _ false (said_conditional at a b c) refl);
+  binary_ = λ at a o b ha hb. sym (level_by _ _ false (said_binary at a o b) (low_prec o));
+  cast_ = λ at t a ha. sym (level_by _ _ false (said_cast at t a) refl);
+  unary_ = λ at o a ha. sym (level_by _ _ true (said_unary at o a) refl);
+  before_ = λ at o a ha. sym (level_by _ _ true (said_before at o a) refl);
+  after_ = λ at a o ha. sym (level_by _ _ true (said_after at a o) refl);
+  name_ = λ at n. sym (level_by _ _ true (said_name at n) refl);
+  element_ = λ at n a ha. sym (level_by _ _ true (said_element at n a) refl);
+  call_ = λ at n es. sym (level_by _ _ true (said_call at n (map (λ a. a.0) es)) refl);
+  number_ = λ at v d u. sym (level_by _ _ true (said_number at v d u) refl);
+  character_ = λ at v. sym (level_by _ _ true (said_character at v) refl);
+  paren_ = λ at a ha. sym (level_by _ _ true (said_paren at a) refl);
+})
+
+-- ---- where an operator stops
+
+abbrev pub Stop : ℕ → Op → Expr → Type 0
+Stop k (m.assigns o) e = k ≤ 1 → (about e).level < 14
+Stop k m.closes e = Unit {0}
+Stop k o e = own o < k
+
+pub stop_up : (j k : ℕ) (o : Op) (e : Expr) → j ≤ k → Stop j o e → Stop k o e
+stop_up j k (m.assigns o) e le h = λ g. h (omega (arith, g, le))
+stop_up j k m.closes e le h = tt
+stop_up j k (m.joins o) e le h = omega (arith, h, le)
+stop_up j k (m.steps o) e le h = omega (arith, h, le)
+stop_up j k m.asks e le h = omega (arith, h, le)
+stop_up j k m.commas e le h = omega (arith, h, le)
+
+pub stop_same : (k : ℕ) (o : Op) (x y : Expr) → (about y).level < 14 → Stop k o x → Stop k o y
+stop_same k (m.assigns o) x y l h = λ g. l
+stop_same k m.closes x y l h = tt
+stop_same k (m.joins o) x y l h = h
+stop_same k (m.steps o) x y l h = h
+stop_same k m.asks x y l h = h
+stop_same k m.commas x y l h = h
+
+pub stop_zero : (o : Op) (e : Expr) → Stop 1 o e → (o ≡ m.commas → ⊥) → Stop 0 o e
+stop_zero (m.assigns o) e h n = λ g. h (omega arith)
+stop_zero m.closes e h n = tt
+stop_zero (m.joins o) e h n = absurd (omega (arith, h, prec_low o))
+stop_zero (m.steps o) e h n = absurd (omega (arith, h))
+stop_zero m.asks e h n = absurd (omega (arith, h))
+stop_zero m.commas e h n = absurd (n refl)
+
+pub stop_one : (o : Op) (e : Expr) → Stop 2 o e → ((x : AssignOperator) → o ≡ m.assigns x → (about e).level < 14) → Stop 1 o e
+stop_one (m.assigns o) e h n = λ g. n o refl
+stop_one m.closes e h n = tt
+stop_one (m.joins o) e h n = absurd (omega (arith, h, prec_low o))
+stop_one (m.steps o) e h n = absurd (omega (arith, h))
+stop_one m.asks e h n = absurd (omega (arith, h))
+stop_one m.commas e h n = omega arith
+
+pub stop_two : (o : Op) (e : Expr) → Stop 3 o e → (o ≡ m.asks → ⊥) → Stop 2 o e
+stop_two (m.assigns o) e h n = λ g. absurd (omega (arith, g))
+stop_two m.closes e h n = tt
+stop_two (m.joins o) e h n = absurd (omega (arith, h, prec_low o))
+stop_two (m.steps o) e h n = absurd (omega (arith, h))
+stop_two m.asks e h n = absurd (n refl)
+stop_two m.commas e h n = omega arith
+
+-- an operator behind an operand, which holds it no stronger than the operand stands
+abbrev pub Edge : Op → Expr → Type 0
+Edge (m.joins o) e = precedence o ≤ (about e).level
+Edge (m.steps o) e = ⊥
+Edge o e = Unit {0}
+
+pub edge_of : (k : ℕ) (o : Op) (e y : Expr) → k ≤ 13 → (k ≤ suc (about y).level) → Stop k o e → Edge o y
+edge_of k (m.joins o) e y le l h = omega (arith, h, l)
+edge_of k (m.steps o) e y le l h = absurd (omega (arith, h, le))
+edge_of k (m.assigns o) e y le l h = tt
+edge_of k m.asks e y le l h = tt
+edge_of k m.commas e y le l h = tt
+edge_of k m.closes e y le l h = tt
+
+pub stop_k : (k : ℕ) (o : Op) (e : Expr) → 3 ≤ k → Edge o e → ((x : BinaryOperator) → o ≡ m.joins x → precedence x < k) → Stop k o e
+stop_k k (m.joins o) e lo h n = n o refl
+stop_k k (m.steps o) e lo h n = absurd h
+stop_k k (m.assigns o) e lo h n = λ g. absurd (omega (arith, g, lo))
+stop_k k m.asks e lo h n = omega (arith, lo)
+stop_k k m.commas e lo h n = omega (arith, lo)
+stop_k k m.closes e lo h n = tt
+
+pub stop_unary : (o : Op) (e : Expr) → ((x : StepOperator) → o ≡ m.steps x → ⊥) → Stop 13 o e
+stop_unary (m.joins o) e n = omega (arith, prec_high o)
+stop_unary (m.steps o) e n = absurd (n o refl)
+stop_unary (m.assigns o) e n = λ g. absurd (omega (arith, g))
+stop_unary m.asks e n = omega arith
+stop_unary m.commas e n = omega arith
+stop_unary m.closes e n = tt
+
+false_right : (b : Bool) → (b && false) ≡ false
+false_right true = refl
+false_right false = refl
+
+-- what stops isn't taken
+pub stop_takes : (fs : List Frame) (u : Use) (o : Op) (e : Expr) → Stop (hole fs u) o e → takes fs u o e ≡ false
+stop_takes fs u m.closes e h = refl
+stop_takes fs u (m.joins o) e h = passes fs u (m.joins o) e h
+stop_takes fs u (m.steps o) e h = passes fs u (m.steps o) e h
+stop_takes fs u m.asks e h = passes fs u m.asks e h
+stop_takes fs u m.commas e h = passes fs u m.commas e h
+stop_takes fs u (m.assigns o) e h = by_hole (nat_le (hole fs u) 1) refl
+  where
+    by_hole : (b : Bool) → nat_le (hole fs u) 1 ≡ b → takes fs u (m.assigns o) e ≡ false
+    by_hole true is = let f : nat_le 14 (about e).level ≡ false = let l = h (leb-true _ _ is) in grind (arith, nat_tests, l) in ap (λ b. true && (nat_le (hole fs u) 1 && b)) f ∙ false_right (nat_le (hole fs u) 1)
+    by_hole false is = ap (λ b. true && (b && nat_le 14 (about e).level)) is
+
+-- ---- nesting
+
+pub behind_plus : (n : ℕ) (S : Said) → behind n S ≡ n + behind 0 S
+behind_plus n S = go (nat_le 1 S.level)
+  where
+    go : (b : Bool) → cond b n (n + S.marks) ≡ n + cond b 0 (0 + S.marks)
+    go true = omega arith
+    go false = omega arith
+
+pub behind_open : (n : ℕ) (S : Said) → 1 ≤ S.level → behind n S ≡ n
+behind_open n S h = ap (λ b. cond b n (n + S.marks)) (le-leb 1 S.level h)
+
+pub open_low : (fs : List Frame) (u : Use) → hole fs u ≤ 1 → opens fs ≡ true
+open_low [] u h = refl
+open_low (m.unary at o ∷ fs) u h = absurd (omega (arith, h))
+open_low (m.before at o ∷ fs) u h = absurd (omega (arith, h))
+open_low (m.cast at t ∷ fs) u h = absurd (omega (arith, h))
+open_low (m.binary a o ∷ fs) u h = absurd (omega (arith, h, prec_low o))
+open_low (m.assign a o ∷ fs) u h = refl
+open_low (m.question c ∷ fs) u h = refl
+open_low (m.colon c a ∷ fs) u h = absurd (omega (arith, h))
+open_low (m.comma a ∷ fs) u h = refl
+open_low (m.paren at ∷ fs) u h = refl
+open_low (m.element at n ∷ fs) u h = refl
+open_low (m.arguments at n es ∷ fs) u h = refl
+
+pub low_first : (fs : List Frame) (u : Use) → hole fs u ≤ 1 → first fs u ≡ suc (spot fs u)
+low_first fs u h = ap (λ b. cond b (suc (spot fs u)) (spot fs u)) (open_low fs u h)
+
+-- ---- the machine and a reading
+
+module _ (T : ℕ → Bool) where
+  -- the outcome is that of the state that what was read leads to
+  abbrev pub Sim : {A : Type 0} → Read A → Outcome → (A → State) → (A → ℕ → List Lexeme → Type 0) → Type 0
+  Sim (Ok x) v k Q = (v ≡ run T x.2 (k x.0)) × Q x.0 x.1 x.2
+  Sim (Err (Wrong j)) v k Q = v ≡ Err (Wrong j)
+  Sim (Err (Deep j)) v k Q = v ≡ Err (Deep j)
+  Sim (Err Out) v k Q = Unit {0}
+
+  pub sim_then : {A B : Type 0} (a : Read A) (f : A → Parser B) (v : Outcome) (k : A → State) (Q : A → ℕ → List Lexeme → Type 0) (l : B → State) (P : B → ℕ → List Lexeme → Type 0)
+      → Sim a v k Q → ((x : A) (n : ℕ) (us : List Lexeme) → Q x n us → Sim (f x n us) (run T us (k x)) l P) → Sim (and_then a f) v l P
+  sim_then (Ok x) f v k Q l P s h = subst (λ w. Sim (f x.0 x.1 x.2) w l P) (sym s.0) (h x.0 x.1 x.2 s.1)
+  sim_then (Err (Wrong j)) f v k Q l P s h = s
+  sim_then (Err (Deep j)) f v k Q l P s h = s
+  sim_then (Err Out) f v k Q l P s h = tt
+
+  pub sim_as : {A : Type 0} (a : Read A) (v w : Outcome) (k : A → State) (Q : A → ℕ → List Lexeme → Type 0) → v ≡ w → Sim a w k Q → Sim a v k Q
+  sim_as a v w k Q e s = subst (λ x. Sim a x k Q) (sym e) s
+
+  pub sim_weaker : {A : Type 0} (a : Read A) (v : Outcome) (k : A → State) (Q P : A → ℕ → List Lexeme → Type 0) → ((x : A) (n : ℕ) (us : List Lexeme) → Q x n us → P x n us) → Sim a v k Q → Sim a v k P
+  sim_weaker (Ok x) v k Q P h s = (s.0, h x.0 x.1 x.2 s.1)
+  sim_weaker (Err (Wrong j)) v k Q P h s = s
+  sim_weaker (Err (Deep j)) v k Q P h s = s
+  sim_weaker (Err Out) v k Q P h s = tt
+
+  pub record Took (n m : ℕ) : Type 0 where
+    pub nesting : m ≡ n
+
+  abbrev eaten : ℕ → List Lexeme → Bool → Read (Unit {0})
+  eaten n us b = cond b (Ok (tt, n, us)) (Err (Deep (suc (length us))))
+
+  pub sim_eat : (s s2 : State) (n : ℕ) (ts : List Lexeme) → at_end s ≡ Err (Wrong 0) → ((t : Lexeme) (us : List Lexeme) → ts ≡ t ∷ us → step s t ≡ Some (n, s2)) → Sim (eat T n ts) (run T ts s) (λ x. s2) (λ x m us. Took n m)
+  unfolding eat
+  sim_eat s s2 n [] e h = e
+  sim_eat s s2 n (t ∷ us) e h = ate (T n) refl
+    where
+      ate : (b : Bool) → T n ≡ b → Sim (eaten n us b) (moved T (suc (length us)) (step s t) (run T us)) (λ x. s2) (λ x m us. Took n m)
+      ate true is = (ap (λ (x : Next). moved T (suc (length us)) x (run T us)) (h t us refl) ∙ ap (λ b. cond b (run T us s2) (Err (Deep (suc (length us))))) is, record { nesting = refl })
+      ate false is = ap (λ (x : Next). moved T (suc (length us)) x (run T us)) (h t us refl) ∙ ap (λ b. cond b (run T us s2) (Err (Deep (suc (length us))))) is
+
+  pub sim_counted : (s s2 : State) (n : ℕ) (ts : List Lexeme) → at_end s ≡ Err (Wrong 0) → ((t : Lexeme) (us : List Lexeme) → ts ≡ t ∷ us → step s t ≡ Some (n, s2)) → Sim (counted T n ts) (run T ts s) (λ x. s2) (λ x m us. Took (suc n) m)
+  sim_counted s s2 n ts e h = sim_then (eat T n ts) (λ x. deeper) (run T ts s) (λ x. s2) (λ x m us. Took n m) (λ x. s2) (λ x m us. Took (suc n) m) (sim_eat s s2 n ts e h) (λ x m us g. (refl, record { nesting = ap suc g.nesting }))
+
+  pub sim_wrong : {A : Type 0} (s : State) (n : ℕ) (ts : List Lexeme) (k : A → State) (Q : A → ℕ → List Lexeme → Type 0) → at_end s ≡ Err (Wrong 0) → ((t : Lexeme) (us : List Lexeme) → ts ≡ t ∷ us → step s t ≡ None) → Sim (wrong n ts) (run T ts s) k Q
+  sim_wrong s n [] k Q e h = e
+  sim_wrong s n (t ∷ us) k Q e h = ap (λ (x : Next). moved T (suc (length us)) x (run T us)) (h t us refl)
+
+  pub same_run : (s s2 : State) (ts : List Lexeme) → at_end s ≡ at_end s2 → ((t : Lexeme) (us : List Lexeme) → ts ≡ t ∷ us → step s t ≡ step s2 t) → run T ts s ≡ run T ts s2
+  same_run s s2 [] e h = e
+  same_run s s2 (t ∷ us) e h = ap (λ (x : Next). moved T (suc (length us)) x (run T us)) (h t us refl)
+
+  pub sign_is : (ts : List Lexeme) (t : Lexeme) (us : List Lexeme) (s : Sign) → ts ≡ t ∷ us → sign_at ts ≡ s → sign_of_word t.word ≡ s
+  unfolding sign_at
+  sign_is ts t us s e h = ap sign_at (sym e) ∙ h
+
+  pub word_at_is : (ts : List Lexeme) (t : Lexeme) (us : List Lexeme) (w : Word) → ts ≡ t ∷ us → word_at ts ≡ w → t.word ≡ w
+  unfolding word_at
+  word_at_is ts t us w e h = ap word_at (sym e) ∙ h
+
+  pub place_is : (ts : List Lexeme) (t : Lexeme) (us : List Lexeme) → ts ≡ t ∷ us → t.at ≡ place_at ts
+  unfolding place_at
+  place_is ts t us e = ap place_at (sym e)
+
+  -- a sign that is expected
+  pub sim_expect : (s s2 : State) (x : Sign) (n : ℕ) (ts : List Lexeme) → at_end s ≡ Err (Wrong 0) → ((t : Lexeme) (us : List Lexeme) → ts ≡ t ∷ us → sign_of_word t.word ≡ x → step s t ≡ Some (n, s2)) → ((t : Lexeme) (us : List Lexeme) → ts ≡ t ∷ us → same (sign_of_word t.word) x ≡ false → step s t ≡ None) → Sim (expect T x n ts) (run T ts s) (λ x. s2) (λ x m us. Took n m)
+  unfolding expect
+  sim_expect s s2 x n ts e yes_ no_ = by_sign (same (sign_at ts) x) refl
+    where
+      by_sign : (b : Bool) → same (sign_at ts) x ≡ b → Sim ((cond b (eat T) wrong) n ts) (run T ts s) (λ x. s2) (λ x m us. Took n m)
+      by_sign true is = sim_eat s s2 n ts e (λ t us l. yes_ t us l (sign_is ts t us x l (same_true the_type (search rules) (sign_at ts) x is)))
+      by_sign false is = sim_wrong {A = Unit {0}} s n ts (λ x. s2) (λ x m us. Took n m) e (λ t us l. no_ t us l (ap (λ y. same y x) (sign_is ts t us (sign_at ts) l refl) ∙ is))
+
+  -- ---- what a goal comes to
+
+  pub record Got (k : ℕ) (p : At) (nest : Expr → ℕ) (x : Expr) (n : ℕ) (us : List Lexeme) : Type 0 where
+    pub level : k ≤ (about x).level
+    pub place : place_of x ≡ p
+    pub nesting : n ≡ nest x
+    pub stop : Stop k (op_of (sign_at us)) x
+
+  abbrev pub inner : List Frame → Use → Expr → ℕ
+  inner fs u x = first fs u + (about x).marks
+
+  abbrev pub outside : List Frame → Use → Expr → ℕ
+  outside fs u x = behind (spot fs u) (about x)
+
+  abbrev pub Has : Read Expr → List Lexeme → State → List Frame → Use → ℕ → At → (Expr → ℕ) → Type 0
+  Has a ts s fs u k p nest = Sim a (run T ts s) (λ x. have x fs u) (Got k p nest)
+
+  pub record Reads (R : r.Reader) : Type 0 where
+    pub expr : (fs : List Frame) (u : Use) (n : ℕ) (ts : List Lexeme) → hole fs u ≡ 0 → n ≡ spot fs u → Has (R r.expr n ts) ts (operand fs u) fs u 0 (place_at ts) (outside fs u)
+    pub assign : (fs : List Frame) (u : Use) (n : ℕ) (ts : List Lexeme) → hole fs u ≤ 1 → n ≡ spot fs u → Has (R r.assign n ts) ts (operand fs u) fs u 1 (place_at ts) (λ x. spot fs u)
+    pub conditional : (fs : List Frame) (u : Use) (n : ℕ) (ts : List Lexeme) → hole fs u ≤ 2 → n ≡ first fs u → Has (R r.conditional n ts) ts (operand fs u) fs u 2 (place_at ts) (inner fs u)
+    pub binary : (k : ℕ) (fs : List Frame) (u : Use) (n : ℕ) (ts : List Lexeme) → 3 ≤ k → k ≤ 13 → hole fs u ≤ k → n ≡ first fs u → Has (R (r.binary k) n ts) ts (operand fs u) fs u k (place_at ts) (inner fs u)
+    pub cast : (fs : List Frame) (u : Use) (n : ℕ) (ts : List Lexeme) → hole fs u ≤ 13 → n ≡ first fs u → Has (R r.cast n ts) ts (operand fs u) fs u 13 (place_at ts) (inner fs u)
+    pub unary : (fs : List Frame) (u : Use) (n : ℕ) (ts : List Lexeme) → hole fs u ≤ 14 → (hole fs u ≤ 13 → sign_at ts ≡ sign.LeftParen → ⊥) → n ≡ first fs u → Has (R r.unary n ts) ts (operand fs u) fs u 14 (place_at ts) (inner fs u)
+    pub after_comma : (e : Expr) (fs : List Frame) (u : Use) (n : ℕ) (ts : List Lexeme) → hole fs u ≡ 0 → n ≡ outside fs u e → Stop 1 (op_of (sign_at ts)) e → Has (R (r.after_comma e) n ts) ts (have e fs u) fs u 0 (place_of e) (outside fs u)
+    pub after_operand : (k : ℕ) (e : Expr) (fs : List Frame) (u : Use) (n : ℕ) (ts : List Lexeme) → 3 ≤ k → k ≤ 13 → hole fs u ≤ k → k ≤ (about e).level → n ≡ inner fs u e → Edge (op_of (sign_at ts)) e → Has (R (r.after_operand k e) n ts) ts (have e fs u) fs u k (place_of e) (inner fs u)
+    pub after_postfix : (e : Expr) (fs : List Frame) (u : Use) (n : ℕ) (ts : List Lexeme) → hole fs u ≤ 15 → 15 ≤ (about e).level → n ≡ inner fs u e → Has (R (r.after_postfix e) n ts) ts (have e fs u) fs u 13 (place_of e) (inner fs u)
+    pub in_call : (at : At) (f : List ℕ) (es : List Expr) (fs : List Frame) (u : Use) (n : ℕ) (ts : List Lexeme) → n ≡ first fs u → Sim (R (r.in_call at f es) n ts) (run T ts (operand (m.arguments at f es ∷ fs) u)) (λ x. have x fs u) (λ x n2 us. (15 ≤ (about x).level) × (place_of x ≡ at) × (n2 ≡ inner fs u x))
+
+  pub got_as : (a : Read Expr) (v : Outcome) (fs : List Frame) (u : Use) (j k : ℕ) (p p2 : At) (f g : Expr → ℕ) → ((x : Expr) (n : ℕ) (us : List Lexeme) → Got j p f x n us → Got k p2 g x n us) → Sim a v (λ x. have x fs u) (Got j p f) → Sim a v (λ x. have x fs u) (Got k p2 g)
+  got_as a v fs u j k p p2 f g h s = sim_weaker a v (λ x. have x fs u) (Got j p f) (Got k p2 g) h s
+
+  -- the machine takes an operator
+  op_step : (e : Expr) (fs : List Frame) (u : Use) (o : Op) (ts : List Lexeme) (n : ℕ) (s2 : State) → op_of (sign_at ts) ≡ o → is_op o ≡ true → hole fs u ≤ own o → left o ≤ (about e).level → push o e fs u ≡ Some (n, s2) → (t : Lexeme) (us : List Lexeme) → ts ≡ t ∷ us → step (have e fs u) t ≡ Some (n, s2)
+  op_step e fs u o ts n s2 is op h l to t us q = pushed o (sign_of_word t.word) e fs u (ap op_of (sign_is ts t us (sign_at ts) q refl) ∙ is) op h l ∙ to
+
+  -- a full frame
+  full : (e y : Expr) (f : Frame) (fs : List Frame) (u : Use) (ts : List Lexeme) → ((s : Sign) (more : Next) → shut f e fs u s more ≡ more) → Stop (hole (f ∷ fs) u) (op_of (sign_at ts)) e → fill f e ≡ y → run T ts (have e (f ∷ fs) u) ≡ run T ts (have y fs u)
+  full e y f fs u ts through st is = same_run (have e (f ∷ fs) u) (have (fill f e) fs u) ts refl
+      (λ t us q. let s : Sign = sign_of_word t.word in
+        ap (λ b. cond b (push (op_of s) e (f ∷ fs) u) (shut f e fs u s (offer s (fill f e) fs u))) (stop_takes (f ∷ fs) u (op_of s) e (subst (λ y. Stop (hole (f ∷ fs) u) (op_of y) e) (sym (sign_is ts t us (sign_at ts) q refl)) st)) ∙ through s (offer s (fill f e) fs u))
+      ∙ ap (λ z. run T ts (have z fs u)) is
+
+  -- what the machine does behind an expression that no operator takes on
+  shuts : (e : Expr) (f : Frame) (fs : List Frame) (u : Use) (ts : List Lexeme) → Stop (hole (f ∷ fs) u) (op_of (sign_at ts)) e → (t : Lexeme) (us : List Lexeme) → ts ≡ t ∷ us → step (have e (f ∷ fs) u) t ≡ shut f e fs u (sign_of_word t.word) (offer (sign_of_word t.word) (fill f e) fs u)
+  shuts e f fs u ts st t us q = let s : Sign = sign_of_word t.word in ap (λ b. cond b (push (op_of s) e (f ∷ fs) u) (shut f e fs u s (offer s (fill f e) fs u))) (stop_takes (f ∷ fs) u (op_of s) e (subst (λ y. Stop (hole (f ∷ fs) u) (op_of y) e) (sym (sign_is ts t us (sign_at ts) q refl)) st))
+
+  module _ (R : r.Reader) (R_reads : Reads R) where
+    -- ---- commas
+
+    marks_comma : (at : At) (a x : Expr) (n : ℕ) → behind n (about (tree.Comma at a x)) ≡ suc (behind n (about a))
+    marks_comma at a x n = ap (λ (s : Said). behind n s) (said_comma at a x) ∙ omega (arith, behind_plus n (about a))
+
+    comma_sim : (e : Expr) (fs : List Frame) (u : Use) (n : ℕ) (ts : List Lexeme) → hole fs u ≡ 0 → n ≡ outside fs u e → Stop 1 (op_of (sign_at ts)) e → (s : Sign) → sign_at ts ≡ s → Has (r.comma_by T R e s n ts) ts (have e fs u) fs u 0 (place_of e) (outside fs u)
+    unfolding q.place_of
+    comma_sim e fs u n ts h0 nn st sign.Comma is =
+        sim_then (counted T n ts) _ (run T ts (have e fs u)) (λ x. operand (m.comma e ∷ fs) u) (λ x k us. Took (suc n) k) (λ x. have x fs u) (Got 0 (place_of e) (outside fs u))
+          (sim_counted (have e fs u) (operand (m.comma e ∷ fs) u) n ts refl (op_step e fs u m.commas ts n _ (ap op_of is) refl (omega (arith, h0)) (omega arith) (ap (λ k. goes k (operand (m.comma e ∷ fs) u)) (sym nn))))
+          (λ y k us g. sim_then (R r.assign k us) _ (run T us (operand (m.comma e ∷ fs) u)) (λ x. have x (m.comma e ∷ fs) u) (Got 1 (place_at us) (λ x. spot (m.comma e ∷ fs) u)) (λ x. have x fs u) (Got 0 (place_of e) (outside fs u))
+            (R_reads.assign (m.comma e ∷ fs) u k us (omega arith) (omega (arith, g.nesting, nn)))
+            (λ x l vs gx. let whole : Expr = tree.Comma (place_of e) e x in
+              sim_as (R (r.after_comma whole) l vs) (run T vs (have x (m.comma e ∷ fs) u)) (run T vs (have whole fs u)) (λ x. have x fs u) (Got 0 (place_of e) (outside fs u))
+              (full x whole (m.comma e) fs u vs (λ s more. refl) gx.stop refl)
+              (got_as _ _ fs u 0 0 (place_of whole) (place_of e) (outside fs u) (outside fs u) (λ z i ws gz. record { level = gz.level; place = gz.place ∙ place_comma (place_of e) e x; nesting = gz.nesting; stop = gz.stop })
+                (R_reads.after_comma whole fs u l vs h0 (omega (arith, gx.nesting, marks_comma (place_of e) e x (spot fs u))) (stop_same 1 _ x whole (omega (arith, ap (λ (s : Said). s.level) (said_comma (place_of e) e x))) gx.stop)))))
+    comma_sim e fs u n ts h0 nn st s is = (refl, record { level = omega arith; place = refl; nesting = nn; stop = stop_zero (op_of (sign_at ts)) e st (λ c. not_comma s (sym (ap op_of is) ∙ c)) })
+      where
+        not_comma : (x : Sign) → op_of x ≡ m.commas → ⊥
+        not_comma x e = ?

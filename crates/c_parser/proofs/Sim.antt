@@ -3,8 +3,8 @@ use denote.Hole.Carrier
 use Rattle.c_tree.specs.declared.syntax.Expr.{out-Expr}
 use denote.Enum.Bare.{same_true}
 use Rattle.c_grammar.specs.contracts.sign.Sign.{the_type}
-use Rattle.std.proofs.Common.{rules, ◌≡◌, ℕ, ℤ, zero, suc, ◌+◌, ◌<◌, ◌≤◌, Bool, true, false, cond, nat_le, ◌==◌, ◌&&◌, List, [], ◌∷◌, ◌++◌, length, map, Option, Some, None, Ok, Err, refl, sym, ap, subst, ◌∙◌, append_assoc, arith}
-use Rattle.std.proofs.lemmas.Bool.{and_parts, leb-true, le-leb, leb-false, and_from}
+use Rattle.std.proofs.Common.{rules, ◌≡◌, ℕ, ℤ, zero, suc, ◌+◌, ◌<◌, ◌≤◌, Bool, true, false, cond, nat_le, nat_lt, ◌==◌, ◌&&◌, List, [], ◌∷◌, ◌++◌, length, map, Option, Some, None, Ok, Err, refl, sym, ap, subst, ◌∙◌, append_assoc, arith}
+use Rattle.std.proofs.lemmas.Bool.{and_parts, leb-true, le-leb, leb-false, and_from, ltb-true, ltb-false}
 use Rattle.std.proofs.lemmas.Bool.Decides.{nat_tests}
 use Rattle.std.proofs.lemmas.List.{append-nil}
 use Rattle.c_tree.specs.declared.token.At.{At}
@@ -387,7 +387,128 @@ module _ (T : ℕ → Bool) where
               (full x whole (m.comma e) fs u vs (λ s more. refl) gx.stop refl)
               (got_as _ _ fs u 0 0 (place_of whole) (place_of e) (outside fs u) (outside fs u) (λ z i ws gz. record { level = gz.level; place = gz.place ∙ place_comma (place_of e) e x; nesting = gz.nesting; stop = gz.stop })
                 (R_reads.after_comma whole fs u l vs h0 (omega (arith, gx.nesting, marks_comma (place_of e) e x (spot fs u))) (stop_same 1 _ x whole (omega (arith, ap (λ (s : Said). s.level) (said_comma (place_of e) e x))) gx.stop)))))
-    comma_sim e fs u n ts h0 nn st s is = (refl, record { level = omega arith; place = refl; nesting = nn; stop = stop_zero (op_of (sign_at ts)) e st (λ c. not_comma s (sym (ap op_of is) ∙ c)) })
+    comma_sim e fs u n ts h0 nn st s is = (refl, record { level = omega arith; place = refl; nesting = nn; stop = stop_zero (op_of (sign_at ts)) e st (λ c. not_comma (sym (ap op_of is) ∙ c)) })
       where
-        not_comma : (x : Sign) → op_of x ≡ m.commas → ⊥
-        not_comma x e = ?
+        not_comma : op_of s ≡ m.commas → ⊥
+        not_comma e = absurd cc
+
+    expr_sim : (fs : List Frame) (u : Use) (n : ℕ) (ts : List Lexeme) → hole fs u ≡ 0 → n ≡ spot fs u → Has (r.step T R r.expr n ts) ts (operand fs u) fs u 0 (place_at ts) (outside fs u)
+    expr_sim fs u n ts h nn = sim_then (R r.assign n ts) _ (run T ts (operand fs u)) (λ x. have x fs u) (Got 1 (place_at ts) (λ x. spot fs u)) (λ x. have x fs u) (Got 0 (place_at ts) (outside fs u))
+        (R_reads.assign fs u n ts (omega (arith, h)) nn)
+        (λ x k us g. got_as _ _ fs u 0 0 (place_of x) (place_at ts) (outside fs u) (outside fs u) (λ z i ws gz. record { level = gz.level; place = gz.place ∙ g.place; nesting = gz.nesting; stop = gz.stop })
+          (R_reads.after_comma x fs u k us h (g.nesting ∙ sym (behind_open (spot fs u) (about x) g.level)) g.stop))
+
+    -- ---- assignments
+
+    record Left_side (p : At) (x : Expr) (us : List Lexeme) : Type 0 where
+      level : 1 ≤ (about x).level
+      place : place_of x ≡ p
+      stop : Stop 1 (op_of (sign_at us)) x
+
+    left_sim : (p : At) (e : Expr) (fs : List Frame) (u : Use) (n : ℕ) (ts : List Lexeme) → hole fs u ≤ 1 → n ≡ inner fs u e → 2 ≤ (about e).level → place_of e ≡ p → Stop 2 (op_of (sign_at ts)) e → Sim (r.after_left T R e n ts) (run T ts (have e fs u)) (λ x. have x fs u) (λ x k us. Left_side p x us)
+    unfolding r.after_left q.place_of
+    left_sim p e fs u n ts h nn l pl st = by_assign (q.assign_of (sign_at ts)) refl
+      where
+        by_unary : (o : AssignOperator) → op_of (sign_at ts) ≡ m.assigns o → (b : Bool) → q.is_unary e ≡ b → Sim ((cond b (counted T >>= (λ y. R r.assign >>= (λ x. pure (tree.Assign (q.place_of e) e o x)))) (pure e)) n ts) (run T ts (have e fs u)) (λ x. have x fs u) (λ x k us. Left_side p x us)
+        by_unary o is false un = (refl, record { level = omega (arith, l); place = pl; stop = stop_one (op_of (sign_at ts)) e st (λ x c. let f : nat_le 14 (about e).level ≡ false = sym (unary_is e) ∙ un in omega (arith, leb-false 14 (about e).level f)) })
+        by_unary o is true un =
+            let fourteen : 14 ≤ (about e).level = leb-true 14 (about e).level (sym (unary_is e) ∙ un) in
+            sim_then (counted T n ts) _ (run T ts (have e fs u)) (λ x. operand (m.assign e o ∷ fs) u) (λ x k us. Took (suc n) k) (λ x. have x fs u) (λ x k us. Left_side p x us)
+              (sim_counted (have e fs u) (operand (m.assign e o ∷ fs) u) n ts refl (op_step e fs u (m.assigns o) ts n _ is refl h fourteen (ap (λ k. goes k (operand (m.assign e o ∷ fs) u)) (sym nn))))
+              (λ y k us g. sim_then (R r.assign k us) _ (run T us (operand (m.assign e o ∷ fs) u)) (λ x. have x (m.assign e o ∷ fs) u) (Got 1 (place_at us) (λ x. spot (m.assign e o ∷ fs) u)) (λ x. have x fs u) (λ x k us. Left_side p x us)
+                (R_reads.assign (m.assign e o ∷ fs) u k us (omega arith) (omega (arith, g.nesting, nn)))
+                (λ x i vs gx. let whole : Expr = tree.Assign (place_of e) e o x in let lv = ap (λ (s : Said). s.level) (said_assign (place_of e) e o x) in
+                  (full x whole (m.assign e o) fs u vs (λ s more. refl) gx.stop refl, record { level = omega (arith, lv); place = place_assign (place_of e) e o x ∙ pl; stop = stop_same 1 _ x whole (omega (arith, lv)) gx.stop })))
+
+        by_assign : (o : Option AssignOperator) → q.assign_of (sign_at ts) ≡ o → Sim (r.assigned T R e o n ts) (run T ts (have e fs u)) (λ x. have x fs u) (λ x k us. Left_side p x us)
+        by_assign None is = (refl, record { level = omega (arith, l); place = pl; stop = stop_one (op_of (sign_at ts)) e st (λ x c. absurd (assign_none (sign_at ts) x is c)) })
+        by_assign (Some o) is = by_unary o (assign_some (sign_at ts) o is) (q.is_unary e) refl
+
+    assign_sim : (fs : List Frame) (u : Use) (n : ℕ) (ts : List Lexeme) → hole fs u ≤ 1 → n ≡ spot fs u → Has (r.step T R r.assign n ts) ts (operand fs u) fs u 1 (place_at ts) (λ x. spot fs u)
+    assign_sim fs u n ts h nn = sim_then (and_then (R r.conditional (suc n) ts) (r.after_left T R)) _ (run T ts (operand fs u)) (λ x. have x fs u) (λ x k us. Left_side (place_at ts) x us) (λ x. have x fs u) (Got 1 (place_at ts) (λ x. spot fs u))
+        (sim_then (R r.conditional (suc n) ts) (r.after_left T R) (run T ts (operand fs u)) (λ x. have x fs u) (Got 2 (place_at ts) (inner fs u)) (λ x. have x fs u) (λ x k us. Left_side (place_at ts) x us)
+          (R_reads.conditional fs u (suc n) ts (omega (arith, h)) (ap suc nn ∙ sym (low_first fs u h)))
+          (λ x k us g. left_sim (place_at ts) x fs u k us h g.nesting g.level g.place g.stop))
+        (λ x k us g. (refl, record { level = g.level; place = g.place; nesting = nn; stop = g.stop }))
+
+    -- ---- operators
+
+    marks_binary : (at : At) (a : Expr) (o : BinaryOperator) (x : Expr) (n : ℕ) → n + (about (tree.Binary at a o x)).marks ≡ suc (n + (about a).marks) + (about x).marks
+    marks_binary at a o x n = ap (λ (s : Said). n + s.marks) (said_binary at a o x) ∙ omega arith
+
+    operand_sim : (k : ℕ) (e : Expr) (fs : List Frame) (u : Use) (n : ℕ) (ts : List Lexeme) → 3 ≤ k → k ≤ 13 → hole fs u ≤ k → k ≤ (about e).level → n ≡ inner fs u e → Edge (op_of (sign_at ts)) e → Has (r.step T R (r.after_operand k e) n ts) ts (have e fs u) fs u k (place_of e) (inner fs u)
+    unfolding q.place_of
+    operand_sim k e fs u n ts lo hi h l nn ed = by_binary (q.binary_of (sign_at ts)) refl
+      where
+        stays : ((x : BinaryOperator) → op_of (sign_at ts) ≡ m.joins x → precedence x < k) → Sim (pure e n ts) (run T ts (have e fs u)) (λ x. have x fs u) (Got k (place_of e) (inner fs u))
+        stays f = (refl, record { level = l; place = refl; nesting = nn; stop = stop_k k (op_of (sign_at ts)) e lo ed f })
+
+        joins_same : (a b : BinaryOperator) → m.joins a ≡ m.joins b → a ≡ b
+        joins_same a b e = cc
+
+        by_prec : (o : BinaryOperator) → op_of (sign_at ts) ≡ m.joins o → (b : Bool) → nat_lt (precedence o) k ≡ b → Sim ((cond b (pure e) (counted T >>= (λ y. R (r.binary (suc (precedence o))) >>= (λ x. R (r.after_operand k (tree.Binary (q.place_of e) e o x)))))) n ts) (run T ts (have e fs u)) (λ x. have x fs u) (Got k (place_of e) (inner fs u))
+        by_prec o is true lt = stays (λ x c. subst (λ y. precedence y < k) (joins_same o x (sym is ∙ c)) (ltb-true (precedence o) k lt))
+        by_prec o is false ge =
+            let kk : k ≤ precedence o = ltb-false (precedence o) k ge in
+            let left_ok : precedence o ≤ (about e).level = let d : Edge (m.joins o) e = subst (λ y. Edge y e) is ed in d in
+            let hi2 = prec_high o in
+            sim_then (counted T n ts) _ (run T ts (have e fs u)) (λ x. operand (m.binary e o ∷ fs) u) (λ x i us. Took (suc n) i) (λ x. have x fs u) (Got k (place_of e) (inner fs u))
+              (sim_counted (have e fs u) (operand (m.binary e o ∷ fs) u) n ts refl (op_step e fs u (m.joins o) ts n _ is refl (omega (arith, h, kk)) left_ok (ap (λ i. goes i (operand (m.binary e o ∷ fs) u)) (sym nn))))
+              (λ y i us g. sim_then (R (r.binary (suc (precedence o))) i us) _ (run T us (operand (m.binary e o ∷ fs) u)) (λ x. have x (m.binary e o ∷ fs) u) (Got (suc (precedence o)) (place_at us) (inner (m.binary e o ∷ fs) u)) (λ x. have x fs u) (Got k (place_of e) (inner fs u))
+                (R_reads.binary (suc (precedence o)) (m.binary e o ∷ fs) u i us (omega (arith, prec_low o)) (omega (arith, hi2)) (omega arith) (omega (arith, g.nesting, nn)))
+                (λ x j vs gx. let whole : Expr = tree.Binary (place_of e) e o x in let lv = ap (λ (s : Said). s.level) (said_binary (place_of e) e o x) in
+                  sim_as (R (r.after_operand k whole) j vs) (run T vs (have x (m.binary e o ∷ fs) u)) (run T vs (have whole fs u)) (λ x. have x fs u) (Got k (place_of e) (inner fs u))
+                  (full x whole (m.binary e o) fs u vs (λ s more. refl) gx.stop refl)
+                  (got_as _ _ fs u k k (place_of whole) (place_of e) (inner fs u) (inner fs u) (λ z i2 ws gz. record { level = gz.level; place = gz.place ∙ place_binary (place_of e) e o x; nesting = gz.nesting; stop = gz.stop })
+                    (R_reads.after_operand k whole fs u j vs lo hi h (omega (arith, lv, kk)) (gx.nesting ∙ sym (marks_binary (place_of e) e o x (first fs u))) (edge_of (suc (precedence o)) (op_of (sign_at vs)) x whole (omega (arith, hi2)) (omega (arith, lv)) gx.stop)))))
+
+        by_binary : (o : Option BinaryOperator) → q.binary_of (sign_at ts) ≡ o → Has (r.operated T R k e o n ts) ts (have e fs u) fs u k (place_of e) (inner fs u)
+        by_binary None is = stays (λ x c. absurd (binary_none (sign_at ts) x is c))
+        by_binary (Some o) is = by_prec o (binary_some (sign_at ts) o is) (nat_lt (precedence o) k) refl
+
+    binary_sim : (k : ℕ) (fs : List Frame) (u : Use) (n : ℕ) (ts : List Lexeme) → 3 ≤ k → k ≤ 13 → hole fs u ≤ k → n ≡ first fs u → Has (r.step T R (r.binary k) n ts) ts (operand fs u) fs u k (place_at ts) (inner fs u)
+    binary_sim k fs u n ts lo hi h nn = sim_then (R r.cast n ts) _ (run T ts (operand fs u)) (λ x. have x fs u) (Got 13 (place_at ts) (inner fs u)) (λ x. have x fs u) (Got k (place_at ts) (inner fs u))
+        (R_reads.cast fs u n ts (omega (arith, h, hi)) nn)
+        (λ x i us g. got_as _ _ fs u k k (place_of x) (place_at ts) (inner fs u) (inner fs u) (λ z j ws gz. record { level = gz.level; place = gz.place ∙ g.place; nesting = gz.nesting; stop = gz.stop })
+          (R_reads.after_operand k x fs u i us lo hi h (omega (arith, hi, g.level)) g.nesting (edge_of 13 (op_of (sign_at us)) x x (omega arith) (omega (arith, g.level)) g.stop)))
+
+    -- ---- conditionals
+
+    marks_conditional : (at : At) (a b c : Expr) (n : ℕ) → n + (about (tree.Conditional at a b c)).marks ≡ behind (suc (n + (about a).marks)) (about b) + (about c).marks
+    marks_conditional at a b c n = ap (λ (s : Said). n + s.marks) (said_conditional at a b c) ∙ omega (arith, behind_plus (suc (n + (about a).marks)) (about b))
+
+    record Branches (e : Expr) (fs : List Frame) (u : Use) (p : Expr × Expr) (n : ℕ) (us : List Lexeme) : Type 0 where
+      nesting : n ≡ inner (m.colon e p.0 ∷ fs) u p.1
+      stop : Stop 2 (op_of (sign_at us)) p.1
+
+    branches_sim : (e : Expr) (fs : List Frame) (u : Use) (n : ℕ) (ts : List Lexeme) → n ≡ spot (m.question e ∷ fs) u → Sim (r.branches T R n ts) (run T ts (operand (m.question e ∷ fs) u)) (λ p. have p.1 (m.colon e p.0 ∷ fs) u) (Branches e fs u)
+    unfolding r.branches
+    branches_sim e fs u n ts nn = sim_then (R r.expr n ts) _ (run T ts (operand (m.question e ∷ fs) u)) (λ x. have x (m.question e ∷ fs) u) (Got 0 (place_at ts) (outside (m.question e ∷ fs) u)) (λ p. have p.1 (m.colon e p.0 ∷ fs) u) (Branches e fs u)
+        (R_reads.expr (m.question e ∷ fs) u n ts refl nn)
+        (λ a i us g. sim_then (expect T sign.Colon i us) _ (run T us (have a (m.question e ∷ fs) u)) (λ x. operand (m.colon e a ∷ fs) u) (λ x k vs. Took i k) (λ p. have p.1 (m.colon e p.0 ∷ fs) u) (Branches e fs u)
+          (sim_expect (have a (m.question e ∷ fs) u) (operand (m.colon e a ∷ fs) u) sign.Colon i us refl
+            (λ t vs q w. shuts a (m.question e) fs u us g.stop t vs q ∙ ap (λ x. m.on x sign.Colon (goes (outside (m.question e ∷ fs) u a) (operand (m.colon e a ∷ fs) u)) None) w ∙ ap (λ k. goes k (operand (m.colon e a ∷ fs) u)) (sym g.nesting))
+            (λ t vs q w. shuts a (m.question e) fs u us g.stop t vs q ∙ ap (λ b. cond b (goes (outside (m.question e ∷ fs) u a) (operand (m.colon e a ∷ fs) u)) None) w))
+          (λ y k vs gk. sim_then (R r.conditional k vs) _ (run T vs (operand (m.colon e a ∷ fs) u)) (λ x. have x (m.colon e a ∷ fs) u) (Got 2 (place_at vs) (inner (m.colon e a ∷ fs) u)) (λ p. have p.1 (m.colon e p.0 ∷ fs) u) (Branches e fs u)
+            (R_reads.conditional (m.colon e a ∷ fs) u k vs (omega arith) (gk.nesting ∙ g.nesting))
+            (λ b j ws gb. (refl, record { nesting = gb.nesting; stop = gb.stop }))))
+
+    question_sim : (p : At) (e : Expr) (fs : List Frame) (u : Use) (n : ℕ) (ts : List Lexeme) → hole fs u ≤ 2 → n ≡ inner fs u e → 3 ≤ (about e).level → place_of e ≡ p → Stop 3 (op_of (sign_at ts)) e → (s : Sign) → sign_at ts ≡ s → Has (r.conditional_by T R e s n ts) ts (have e fs u) fs u 2 p (inner fs u)
+    unfolding q.place_of
+    question_sim p e fs u n ts h nn l pl st sign.Question is =
+        sim_then (counted T n ts) _ (run T ts (have e fs u)) (λ x. operand (m.question e ∷ fs) u) (λ x i us. Took (suc n) i) (λ x. have x fs u) (Got 2 p (inner fs u))
+          (sim_counted (have e fs u) (operand (m.question e ∷ fs) u) n ts refl (op_step e fs u m.asks ts n _ (ap op_of is) refl h l (ap (λ i. goes i (operand (m.question e ∷ fs) u)) (sym nn))))
+          (λ y i us g. sim_then (r.branches T R i us) _ (run T us (operand (m.question e ∷ fs) u)) (λ p. have p.1 (m.colon e p.0 ∷ fs) u) (Branches e fs u) (λ x. have x fs u) (Got 2 p (inner fs u))
+            (branches_sim e fs u i us (omega (arith, g.nesting, nn)))
+            (λ b j vs gb. let whole : Expr = tree.Conditional (place_of e) e b.0 b.1 in let lv = ap (λ (s : Said). s.level) (said_conditional (place_of e) e b.0 b.1) in
+              (full b.1 whole (m.colon e b.0) fs u vs (λ s more. refl) gb.stop refl,
+                record { level = omega (arith, lv); place = place_conditional (place_of e) e b.0 b.1 ∙ pl; nesting = gb.nesting ∙ sym (marks_conditional (place_of e) e b.0 b.1 (first fs u)); stop = stop_same 2 _ b.1 whole (omega (arith, lv)) gb.stop })))
+    question_sim p e fs u n ts h nn l pl st s is = (refl, record { level = omega (arith, l); place = pl; nesting = nn; stop = stop_two (op_of (sign_at ts)) e st (λ c. not_asks (sym (ap op_of is) ∙ c)) })
+      where
+        not_asks : op_of s ≡ m.asks → ⊥
+        not_asks e = absurd cc
+
+    conditional_sim : (fs : List Frame) (u : Use) (n : ℕ) (ts : List Lexeme) → hole fs u ≤ 2 → n ≡ first fs u → Has (r.step T R r.conditional n ts) ts (operand fs u) fs u 2 (place_at ts) (inner fs u)
+    conditional_sim fs u n ts h nn = sim_then (R (r.binary 3) n ts) _ (run T ts (operand fs u)) (λ x. have x fs u) (Got 3 (place_at ts) (inner fs u)) (λ x. have x fs u) (Got 2 (place_at ts) (inner fs u))
+        (R_reads.binary 3 fs u n ts (omega arith) (omega arith) (omega (arith, h)) nn)
+        (λ x i us g. question_sim (place_at ts) x fs u i us h g.nesting g.level g.place g.stop (sign_at us) refl)

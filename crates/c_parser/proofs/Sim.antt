@@ -512,3 +512,106 @@ module _ (T : ℕ → Bool) where
     conditional_sim fs u n ts h nn = sim_then (R (r.binary 3) n ts) _ (run T ts (operand fs u)) (λ x. have x fs u) (Got 3 (place_at ts) (inner fs u)) (λ x. have x fs u) (Got 2 (place_at ts) (inner fs u))
         (R_reads.binary 3 fs u n ts (omega arith) (omega arith) (omega (arith, h)) nn)
         (λ x i us g. question_sim (place_at ts) x fs u i us h g.nesting g.level g.place g.stop (sign_at us) refl)
+
+    -- ---- postfix
+
+    marks_after : (at : At) (e : Expr) (o : StepOperator) (n : ℕ) → n + (about (tree.After at e o)).marks ≡ suc (n + (about e).marks)
+    marks_after at e o n = ap (λ (s : Said). n + s.marks) (said_after at e o) ∙ omega arith
+
+    behind_sim : (e : Expr) (o : StepOperator) (fs : List Frame) (u : Use) (n : ℕ) (ts : List Lexeme) → hole fs u ≤ 15 → 15 ≤ (about e).level → n ≡ inner fs u e → op_of (sign_at ts) ≡ m.steps o → Has (r.stepped_behind T R e o n ts) ts (have e fs u) fs u 13 (place_of e) (inner fs u)
+    unfolding r.stepped_behind q.place_of
+    behind_sim e o fs u n ts h l nn is =
+        let whole : Expr = tree.After (place_of e) e o in
+        sim_then (counted T n ts) _ (run T ts (have e fs u)) (λ x. have whole fs u) (λ x i us. Took (suc n) i) (λ x. have x fs u) (Got 13 (place_of e) (inner fs u))
+          (sim_counted (have e fs u) (have whole fs u) n ts refl (op_step e fs u (m.steps o) ts n _ is refl h l (ap (λ i. goes i (have whole fs u)) (sym nn))))
+          (λ y i us g. got_as _ _ fs u 13 13 (place_of whole) (place_of e) (inner fs u) (inner fs u) (λ z j ws gz. record { level = gz.level; place = gz.place ∙ place_after (place_of e) e o; nesting = gz.nesting; stop = gz.stop })
+            (R_reads.after_postfix whole fs u i us h (omega (arith, ap (λ (s : Said). s.level) (said_after (place_of e) e o))) (omega (arith, g.nesting, nn, marks_after (place_of e) e o (first fs u)))))
+
+    postfix_sim : (e : Expr) (fs : List Frame) (u : Use) (n : ℕ) (ts : List Lexeme) → hole fs u ≤ 15 → 15 ≤ (about e).level → n ≡ inner fs u e → (s : Sign) → sign_at ts ≡ s → Has (r.postfix_by T R e s n ts) ts (have e fs u) fs u 13 (place_of e) (inner fs u)
+    postfix_sim e fs u n ts h l nn sign.Increment is = behind_sim e step_.Increment fs u n ts h l nn (ap op_of is)
+    postfix_sim e fs u n ts h l nn sign.Decrement is = behind_sim e step_.Decrement fs u n ts h l nn (ap op_of is)
+    postfix_sim e fs u n ts h l nn s is = (refl, record { level = omega (arith, l); place = refl; nesting = nn; stop = stop_unary (op_of (sign_at ts)) e (λ x c. not_steps x (sym (ap op_of is) ∙ c)) })
+      where
+        not_steps : (x : StepOperator) → op_of s ≡ m.steps x → ⊥
+        not_steps x e = absurd cc
+
+    -- ---- brackets
+
+    -- an expression up to the bracket that closes it
+    marks_paren : (at : At) (e : Expr) (n : ℕ) → n + (about (tree.Paren at e)).marks ≡ behind n (about e)
+    marks_paren at e n = ap (λ (s : Said). n + s.marks) (said_paren at e) ∙ omega (arith, behind_plus n (about e))
+
+    marks_element : (at : At) (f : List ℕ) (e : Expr) (n : ℕ) → n + (about (tree.Element at f e)).marks ≡ behind n (about e)
+    marks_element at f e n = ap (λ (s : Said). n + s.marks) (said_element at f e) ∙ omega (arith, behind_plus n (about e))
+
+    parenthesis_sim : (at : At) (fs : List Frame) (u : Use) (n : ℕ) (ts : List Lexeme) → hole fs u ≤ 14 → n ≡ first fs u → Has (r.parenthesis T R at n ts) ts (operand (m.paren at ∷ fs) u) fs u 13 at (inner fs u)
+    unfolding r.parenthesis
+    parenthesis_sim at fs u n ts h nn = sim_then (R r.expr n ts) _ (run T ts (operand (m.paren at ∷ fs) u)) (λ x. have x (m.paren at ∷ fs) u) (Got 0 (place_at ts) (outside (m.paren at ∷ fs) u)) (λ x. have x fs u) (Got 13 at (inner fs u))
+        (R_reads.expr (m.paren at ∷ fs) u n ts refl nn)
+        (λ e i us g. let whole : Expr = tree.Paren at e in sim_then (expect T sign.RightParen i us) _ (run T us (have e (m.paren at ∷ fs) u)) (λ x. have whole fs u) (λ x k vs. Took i k) (λ x. have x fs u) (Got 13 at (inner fs u))
+          (sim_expect (have e (m.paren at ∷ fs) u) (have whole fs u) sign.RightParen i us refl
+            (λ t vs q w. shuts e (m.paren at) fs u us g.stop t vs q ∙ ap (λ x. m.on x sign.RightParen (goes (outside (m.paren at ∷ fs) u e) (have whole fs u)) None) w ∙ ap (λ k. goes k (have whole fs u)) (sym g.nesting))
+            (λ t vs q w. shuts e (m.paren at) fs u us g.stop t vs q ∙ ap (λ b. cond b (goes (outside (m.paren at ∷ fs) u e) (have whole fs u)) None) w))
+          (λ y k vs gk. got_as _ _ fs u 13 13 (place_of whole) at (inner fs u) (inner fs u) (λ z j ws gz. record { level = gz.level; place = gz.place ∙ place_paren at e; nesting = gz.nesting; stop = gz.stop })
+            (R_reads.after_postfix whole fs u k vs (omega (arith, h)) (omega (arith, ap (λ (s : Said). s.level) (said_paren at e))) (gk.nesting ∙ g.nesting ∙ sym (marks_paren at e (first fs u))))))
+
+    called_sim : (at : At) (f : List ℕ) (fs : List Frame) (u : Use) (n : ℕ) (ts : List Lexeme) → n ≡ first fs u → (s : Sign) → sign_at ts ≡ s → Sim (r.called_by T R at f s n ts) (run T ts (m.either sign.RightParen (first fs u) (have (tree.Call at f []) fs u) (operand (m.arguments at f [] ∷ fs) u))) (λ x. have x fs u) (λ x n2 us. (15 ≤ (about x).level) × (place_of x ≡ at) × (n2 ≡ inner fs u x))
+    called_sim at f fs u n ts nn sign.RightParen is = sim_then (eat T n ts) _ (run T ts (m.either sign.RightParen (first fs u) (have (tree.Call at f []) fs u) (operand (m.arguments at f [] ∷ fs) u))) (λ x. have (tree.Call at f []) fs u) (λ x k us. Took n k) (λ x. have x fs u) (λ x n2 us. (15 ≤ (about x).level) × (place_of x ≡ at) × (n2 ≡ inner fs u x))
+        (sim_eat (m.either sign.RightParen (first fs u) (have (tree.Call at f []) fs u) (operand (m.arguments at f [] ∷ fs) u)) (have (tree.Call at f []) fs u) n ts refl (λ t us q. ap (λ w. cond (m.is_sign w sign.RightParen) (goes (first fs u) (have (tree.Call at f []) fs u)) (step (operand (m.arguments at f [] ∷ fs) u) t)) (word_is t.word sign.RightParen (sign_is ts t us sign.RightParen q is) refl) ∙ ap (λ k. goes k (have (tree.Call at f []) fs u)) (sym nn)))
+        (λ y k us g. (refl, (omega (arith, ap (λ (s : Said). s.level) (said_call at f [])), place_call at f [], omega (arith, g.nesting, nn, ap (λ (s : Said). s.marks) (said_call at f [])))))
+    called_sim at f fs u n ts nn s is = sim_as (R (r.in_call at f []) n ts) (run T ts (m.either sign.RightParen (first fs u) (have (tree.Call at f []) fs u) (operand (m.arguments at f [] ∷ fs) u))) (run T ts (operand (m.arguments at f [] ∷ fs) u)) (λ x. have x fs u) (λ x n2 us. (15 ≤ (about x).level) × (place_of x ≡ at) × (n2 ≡ inner fs u x))
+        (same_run (m.either sign.RightParen (first fs u) (have (tree.Call at f []) fs u) (operand (m.arguments at f [] ∷ fs) u)) (operand (m.arguments at f [] ∷ fs) u) ts refl (λ t us q. ap (λ b. cond b (goes (first fs u) (have (tree.Call at f []) fs u)) (step (operand (m.arguments at f [] ∷ fs) u) t)) (not_close t.word (sign_is ts t us s q is))))
+        (R_reads.in_call at f [] fs u n ts nn)
+      where
+        not_close : (w : Word) → sign_of_word w ≡ s → m.is_sign w sign.RightParen ≡ false
+        not_close (a_name n) e = refl
+        not_close (a_number v d k) e = refl
+        not_close (a_character v) e = refl
+        not_close (a_sign x) e = subst (λ y. m.is_sign (a_sign y) sign.RightParen ≡ false) (sym e) refl
+
+    call_end : (at : At) (f : List ℕ) (fs : List Frame) (u : Use) (n : ℕ) (ts : List Lexeme) → hole fs u ≤ 14 → n ≡ first fs u → Has (and_then (r.called T R at f n ts) (λ e. R (r.after_postfix e))) ts (m.either sign.RightParen (first fs u) (have (tree.Call at f []) fs u) (operand (m.arguments at f [] ∷ fs) u)) fs u 13 at (inner fs u)
+    unfolding r.called
+    call_end at f fs u n ts h nn = sim_then (r.called_by T R at f (sign_at ts) n ts) _ _ (λ x. have x fs u) (λ x n2 us. (15 ≤ (about x).level) × (place_of x ≡ at) × (n2 ≡ inner fs u x)) (λ x. have x fs u) (Got 13 at (inner fs u))
+        (called_sim at f fs u n ts nn (sign_at ts) refl)
+        (λ x k us g. got_as _ _ fs u 13 13 (place_of x) at (inner fs u) (inner fs u) (λ z j ws gz. record { level = gz.level; place = gz.place ∙ g.1; nesting = gz.nesting; stop = gz.stop })
+          (R_reads.after_postfix x fs u k us (omega (arith, h)) g.0 g.2))
+
+    named_sim : (at : At) (f : List ℕ) (fs : List Frame) (u : Use) (n : ℕ) (ts : List Lexeme) → hole fs u ≤ 14 → n ≡ first fs u → (s : Sign) → sign_at ts ≡ s → Has (r.named_by T R at f s n ts) ts (named at f fs u) fs u 13 at (inner fs u)
+    named_sim at f fs u n ts h nn sign.LeftParen is =
+        sim_then (eat T n ts) _ (run T ts (named at f fs u)) (λ x. m.either sign.RightParen (first fs u) (have (tree.Call at f []) fs u) (operand (m.arguments at f [] ∷ fs) u)) (λ x k us. Took n k) (λ x. have x fs u) (Got 13 at (inner fs u))
+          (sim_eat (named at f fs u) (m.either sign.RightParen (first fs u) (have (tree.Call at f []) fs u) (operand (m.arguments at f [] ∷ fs) u)) n ts refl (λ t us q. ap (λ x. m.on_name at f fs u x) (sign_is ts t us sign.LeftParen q is) ∙ ap (λ k. goes k (m.either sign.RightParen (first fs u) (have (tree.Call at f []) fs u) (operand (m.arguments at f [] ∷ fs) u))) (sym nn)))
+          (λ y k us g. call_end at f fs u k us h (g.nesting ∙ nn))
+    named_sim at f fs u n ts h nn sign.LeftBracket is =
+        sim_then (eat T n ts) _ (run T ts (named at f fs u)) (λ x. operand (m.element at f ∷ fs) u) (λ x k us. Took n k) (λ x. have x fs u) (Got 13 at (inner fs u))
+          (sim_eat (named at f fs u) (operand (m.element at f ∷ fs) u) n ts refl (λ t us q. ap (λ x. m.on_name at f fs u x) (sign_is ts t us sign.LeftBracket q is) ∙ ap (λ k. goes k (operand (m.element at f ∷ fs) u)) (sym nn)))
+          (λ y k us g. sim_then (R r.expr k us) _ (run T us (operand (m.element at f ∷ fs) u)) (λ x. have x (m.element at f ∷ fs) u) (Got 0 (place_at us) (outside (m.element at f ∷ fs) u)) (λ x. have x fs u) (Got 13 at (inner fs u))
+            (R_reads.expr (m.element at f ∷ fs) u k us refl (g.nesting ∙ nn))
+            (λ e i vs ge. let whole : Expr = tree.Element at f e in sim_then (expect T sign.RightBracket i vs) _ (run T vs (have e (m.element at f ∷ fs) u)) (λ x. have whole fs u) (λ x j ws. Took i j) (λ x. have x fs u) (Got 13 at (inner fs u))
+              (sim_expect (have e (m.element at f ∷ fs) u) (have whole fs u) sign.RightBracket i vs refl
+                (λ t ws q w. shuts e (m.element at f) fs u vs ge.stop t ws q ∙ ap (λ x. m.on x sign.RightBracket (goes (outside (m.element at f ∷ fs) u e) (have whole fs u)) None) w ∙ ap (λ k. goes k (have whole fs u)) (sym ge.nesting))
+                (λ t ws q w. shuts e (m.element at f) fs u vs ge.stop t ws q ∙ ap (λ b. cond b (goes (outside (m.element at f ∷ fs) u e) (have whole fs u)) None) w))
+              (λ y2 j ws gj. got_as _ _ fs u 13 13 (place_of whole) at (inner fs u) (inner fs u) (λ z l os gz. record { level = gz.level; place = gz.place ∙ place_element at f e; nesting = gz.nesting; stop = gz.stop })
+                (R_reads.after_postfix whole fs u j ws (omega (arith, h)) (omega (arith, ap (λ (s : Said). s.level) (said_element at f e))) (gj.nesting ∙ ge.nesting ∙ sym (marks_element at f e (first fs u)))))))
+    named_sim at f fs u n ts h nn s is =
+        let name : Expr = tree.Name at f in
+        sim_as (R (r.after_postfix name) n ts) (run T ts (named at f fs u)) (run T ts (have name fs u)) (λ x. have x fs u) (Got 13 at (inner fs u))
+          (same_run (named at f fs u) (have name fs u) ts refl (λ t us q. let w = sign_is ts t us s q is in ap (λ x. m.on_name at f fs u x) w ∙ ap (λ x. offer x name fs u) (sym w)))
+          (got_as _ _ fs u 13 13 (place_of name) at (inner fs u) (inner fs u) (λ z l os gz. record { level = gz.level; place = gz.place ∙ place_name at f; nesting = gz.nesting; stop = gz.stop })
+            (R_reads.after_postfix name fs u n ts (omega (arith, h)) (omega (arith, ap (λ (s : Said). s.level) (said_name at f))) (omega (arith, nn, ap (λ (s : Said). s.marks) (said_name at f)))))
+
+    -- an operand of one word
+    literal_sim : (at : At) (e : Expr) (w : Word) (fs : List Frame) (u : Use) (n : ℕ) (ts : List Lexeme) → hole fs u ≤ 14 → n ≡ first fs u → word_at ts ≡ w → at ≡ place_at ts → ((q : At) → m.on_operand at w fs u ≡ goes (first fs u) (have e fs u)) → 15 ≤ (about e).level → place_of e ≡ at → (about e).marks ≡ 0 → Has (and_then (eat T n ts) (λ x. R (r.after_postfix e))) ts (operand fs u) fs u 13 at (inner fs u)
+    literal_sim at e w fs u n ts h nn is here does l pl mk =
+        sim_then (eat T n ts) _ (run T ts (operand fs u)) (λ x. have e fs u) (λ x k us. Took n k) (λ x. have x fs u) (Got 13 at (inner fs u))
+          (sim_eat (operand fs u) (have e fs u) n ts refl (λ t us q. ap (λ y. m.on_operand t.at y fs u) (word_at_is ts t us w q is) ∙ ap (λ y. m.on_operand y w fs u) (place_is ts t us q ∙ sym here) ∙ does at ∙ ap (λ k. goes k (have e fs u)) (sym nn)))
+          (λ y k us g. got_as _ _ fs u 13 13 (place_of e) at (inner fs u) (inner fs u) (λ z j ws gz. record { level = gz.level; place = gz.place ∙ pl; nesting = gz.nesting; stop = gz.stop })
+            (R_reads.after_postfix e fs u k us (omega (arith, h)) l (omega (arith, g.nesting, nn, mk))))
+
+    primary_sim : (at : At) (fs : List Frame) (u : Use) (n : ℕ) (ts : List Lexeme) → hole fs u ≤ 14 → n ≡ first fs u → at ≡ place_at ts → ((x : Sign) → word_at ts ≡ a_sign x → m.prefix at x fs u ≡ None) → (w : Word) → word_at ts ≡ w → Has (r.primary_by T R at w n ts) ts (operand fs u) fs u 13 at (inner fs u)
+    unfolding r.named
+    primary_sim at fs u n ts h nn here no_sign (a_name f) is = sim_then (eat T n ts) _ (run T ts (operand fs u)) (λ x. named at f fs u) (λ x k us. Took n k) (λ x. have x fs u) (Got 13 at (inner fs u))
+        (sim_eat (operand fs u) (named at f fs u) n ts refl (λ t us q. ap (λ y. m.on_operand t.at y fs u) (word_at_is ts t us (a_name f) q is) ∙ ap (λ y. goes (first fs u) (named y f fs u)) (place_is ts t us q ∙ sym here) ∙ ap (λ k. goes k (named at f fs u)) (sym nn)))
+        (λ y k us g. named_sim at f fs u k us h (g.nesting ∙ nn) (sign_at us) refl)
+    primary_sim at fs u n ts h nn here no_sign (a_number v d k) is = literal_sim at (tree.Number at v d k) (a_number v d k) fs u n ts h nn is here (λ q. refl) (omega (arith, ap (λ (s : Said). s.level) (said_number at v d k))) (place_number at v d k) (ap (λ (s : Said). s.marks) (said_number at v d k))
+    primary_sim at fs u n ts h nn here no_sign (a_character v) is = literal_sim at (tree.Character at v) (a_character v) fs u n ts h nn is here (λ q. refl) (omega (arith, ap (λ (s : Said). s.level) (said_character at v))) (place_character at v) (ap (λ (s : Said). s.marks) (said_character at v))
+    primary_sim at fs u n ts h nn here no_sign (a_sign x) is = sim_wrong (operand fs u) n ts (λ x. have x fs u) (Got 13 at (inner fs u)) refl (λ t us q. ap (λ y. m.on_operand t.at y fs u) (word_at_is ts t us (a_sign x) q is) ∙ ap (λ y. m.prefix y x fs u) (place_is ts t us q ∙ sym here) ∙ no_sign x is)

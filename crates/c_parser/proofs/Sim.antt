@@ -348,7 +348,7 @@ module _ (T : ℕ → Bool) where
     pub unary : (fs : List Frame) (u : Use) (n : ℕ) (ts : List Lexeme) → hole fs u ≤ 14 → (hole fs u ≤ 13 → sign_at ts ≡ sign.LeftParen → ⊥) → n ≡ first fs u → Has (R r.unary n ts) ts (operand fs u) fs u 14 (place_at ts) (inner fs u)
     pub after_comma : (e : Expr) (fs : List Frame) (u : Use) (n : ℕ) (ts : List Lexeme) → hole fs u ≡ 0 → n ≡ outside fs u e → Stop 1 (op_of (sign_at ts)) e → Has (R (r.after_comma e) n ts) ts (have e fs u) fs u 0 (place_of e) (outside fs u)
     pub after_operand : (k : ℕ) (e : Expr) (fs : List Frame) (u : Use) (n : ℕ) (ts : List Lexeme) → 3 ≤ k → k ≤ 13 → hole fs u ≤ k → k ≤ (about e).level → n ≡ inner fs u e → Edge (op_of (sign_at ts)) e → Has (R (r.after_operand k e) n ts) ts (have e fs u) fs u k (place_of e) (inner fs u)
-    pub after_postfix : (e : Expr) (fs : List Frame) (u : Use) (n : ℕ) (ts : List Lexeme) → hole fs u ≤ 15 → 15 ≤ (about e).level → n ≡ inner fs u e → Has (R (r.after_postfix e) n ts) ts (have e fs u) fs u 13 (place_of e) (inner fs u)
+    pub after_postfix : (e : Expr) (fs : List Frame) (u : Use) (n : ℕ) (ts : List Lexeme) → hole fs u ≤ 15 → 15 ≤ (about e).level → n ≡ inner fs u e → Has (R (r.after_postfix e) n ts) ts (have e fs u) fs u 14 (place_of e) (inner fs u)
     pub in_call : (at : At) (f : List ℕ) (es : List Expr) (fs : List Frame) (u : Use) (n : ℕ) (ts : List Lexeme) → n ≡ first fs u → Sim (R (r.in_call at f es) n ts) (run T ts (operand (m.arguments at f es ∷ fs) u)) (λ x. have x fs u) (λ x n2 us. (15 ≤ (about x).level) × (place_of x ≡ at) × (n2 ≡ inner fs u x))
 
   pub got_as : (a : Read Expr) (v : Outcome) (fs : List Frame) (u : Use) (j k : ℕ) (p p2 : At) (f g : Expr → ℕ) → ((x : Expr) (n : ℕ) (us : List Lexeme) → Got j p f x n us → Got k p2 g x n us) → Sim a v (λ x. have x fs u) (Got j p f) → Sim a v (λ x. have x fs u) (Got k p2 g)
@@ -518,19 +518,19 @@ module _ (T : ℕ → Bool) where
     marks_after : (at : At) (e : Expr) (o : StepOperator) (n : ℕ) → n + (about (tree.After at e o)).marks ≡ suc (n + (about e).marks)
     marks_after at e o n = ap (λ (s : Said). n + s.marks) (said_after at e o) ∙ omega arith
 
-    behind_sim : (e : Expr) (o : StepOperator) (fs : List Frame) (u : Use) (n : ℕ) (ts : List Lexeme) → hole fs u ≤ 15 → 15 ≤ (about e).level → n ≡ inner fs u e → op_of (sign_at ts) ≡ m.steps o → Has (r.stepped_behind T R e o n ts) ts (have e fs u) fs u 13 (place_of e) (inner fs u)
+    behind_sim : (e : Expr) (o : StepOperator) (fs : List Frame) (u : Use) (n : ℕ) (ts : List Lexeme) → hole fs u ≤ 15 → 15 ≤ (about e).level → n ≡ inner fs u e → op_of (sign_at ts) ≡ m.steps o → Has (r.stepped_behind T R e o n ts) ts (have e fs u) fs u 14 (place_of e) (inner fs u)
     unfolding r.stepped_behind q.place_of
     behind_sim e o fs u n ts h l nn is =
         let whole : Expr = tree.After (place_of e) e o in
-        sim_then (counted T n ts) _ (run T ts (have e fs u)) (λ x. have whole fs u) (λ x i us. Took (suc n) i) (λ x. have x fs u) (Got 13 (place_of e) (inner fs u))
+        sim_then (counted T n ts) _ (run T ts (have e fs u)) (λ x. have whole fs u) (λ x i us. Took (suc n) i) (λ x. have x fs u) (Got 14 (place_of e) (inner fs u))
           (sim_counted (have e fs u) (have whole fs u) n ts refl (op_step e fs u (m.steps o) ts n _ is refl h l (ap (λ i. goes i (have whole fs u)) (sym nn))))
-          (λ y i us g. got_as _ _ fs u 13 13 (place_of whole) (place_of e) (inner fs u) (inner fs u) (λ z j ws gz. record { level = gz.level; place = gz.place ∙ place_after (place_of e) e o; nesting = gz.nesting; stop = gz.stop })
+          (λ y i us g. got_as _ _ fs u 14 14 (place_of whole) (place_of e) (inner fs u) (inner fs u) (λ z j ws gz. record { level = gz.level; place = gz.place ∙ place_after (place_of e) e o; nesting = gz.nesting; stop = gz.stop })
             (R_reads.after_postfix whole fs u i us h (omega (arith, ap (λ (s : Said). s.level) (said_after (place_of e) e o))) (omega (arith, g.nesting, nn, marks_after (place_of e) e o (first fs u)))))
 
-    postfix_sim : (e : Expr) (fs : List Frame) (u : Use) (n : ℕ) (ts : List Lexeme) → hole fs u ≤ 15 → 15 ≤ (about e).level → n ≡ inner fs u e → (s : Sign) → sign_at ts ≡ s → Has (r.postfix_by T R e s n ts) ts (have e fs u) fs u 13 (place_of e) (inner fs u)
+    postfix_sim : (e : Expr) (fs : List Frame) (u : Use) (n : ℕ) (ts : List Lexeme) → hole fs u ≤ 15 → 15 ≤ (about e).level → n ≡ inner fs u e → (s : Sign) → sign_at ts ≡ s → Has (r.postfix_by T R e s n ts) ts (have e fs u) fs u 14 (place_of e) (inner fs u)
     postfix_sim e fs u n ts h l nn sign.Increment is = behind_sim e step_.Increment fs u n ts h l nn (ap op_of is)
     postfix_sim e fs u n ts h l nn sign.Decrement is = behind_sim e step_.Decrement fs u n ts h l nn (ap op_of is)
-    postfix_sim e fs u n ts h l nn s is = (refl, record { level = omega (arith, l); place = refl; nesting = nn; stop = stop_unary (op_of (sign_at ts)) e (λ x c. not_steps x (sym (ap op_of is) ∙ c)) })
+    postfix_sim e fs u n ts h l nn s is = (refl, record { level = omega (arith, l); place = refl; nesting = nn; stop = stop_up 13 14 (op_of (sign_at ts)) e (omega arith) (stop_unary (op_of (sign_at ts)) e (λ x c. not_steps x (sym (ap op_of is) ∙ c))) })
       where
         not_steps : (x : StepOperator) → op_of s ≡ m.steps x → ⊥
         not_steps x e = absurd cc
@@ -544,15 +544,15 @@ module _ (T : ℕ → Bool) where
     marks_element : (at : At) (f : List ℕ) (e : Expr) (n : ℕ) → n + (about (tree.Element at f e)).marks ≡ behind n (about e)
     marks_element at f e n = ap (λ (s : Said). n + s.marks) (said_element at f e) ∙ omega (arith, behind_plus n (about e))
 
-    parenthesis_sim : (at : At) (fs : List Frame) (u : Use) (n : ℕ) (ts : List Lexeme) → hole fs u ≤ 14 → n ≡ first fs u → Has (r.parenthesis T R at n ts) ts (operand (m.paren at ∷ fs) u) fs u 13 at (inner fs u)
+    parenthesis_sim : (at : At) (fs : List Frame) (u : Use) (n : ℕ) (ts : List Lexeme) → hole fs u ≤ 14 → n ≡ first fs u → Has (r.parenthesis T R at n ts) ts (operand (m.paren at ∷ fs) u) fs u 14 at (inner fs u)
     unfolding r.parenthesis
-    parenthesis_sim at fs u n ts h nn = sim_then (R r.expr n ts) _ (run T ts (operand (m.paren at ∷ fs) u)) (λ x. have x (m.paren at ∷ fs) u) (Got 0 (place_at ts) (outside (m.paren at ∷ fs) u)) (λ x. have x fs u) (Got 13 at (inner fs u))
+    parenthesis_sim at fs u n ts h nn = sim_then (R r.expr n ts) _ (run T ts (operand (m.paren at ∷ fs) u)) (λ x. have x (m.paren at ∷ fs) u) (Got 0 (place_at ts) (outside (m.paren at ∷ fs) u)) (λ x. have x fs u) (Got 14 at (inner fs u))
         (R_reads.expr (m.paren at ∷ fs) u n ts refl nn)
-        (λ e i us g. let whole : Expr = tree.Paren at e in sim_then (expect T sign.RightParen i us) _ (run T us (have e (m.paren at ∷ fs) u)) (λ x. have whole fs u) (λ x k vs. Took i k) (λ x. have x fs u) (Got 13 at (inner fs u))
+        (λ e i us g. let whole : Expr = tree.Paren at e in sim_then (expect T sign.RightParen i us) _ (run T us (have e (m.paren at ∷ fs) u)) (λ x. have whole fs u) (λ x k vs. Took i k) (λ x. have x fs u) (Got 14 at (inner fs u))
           (sim_expect (have e (m.paren at ∷ fs) u) (have whole fs u) sign.RightParen i us refl
             (λ t vs q w. shuts e (m.paren at) fs u us g.stop t vs q ∙ ap (λ x. m.on x sign.RightParen (goes (outside (m.paren at ∷ fs) u e) (have whole fs u)) None) w ∙ ap (λ k. goes k (have whole fs u)) (sym g.nesting))
             (λ t vs q w. shuts e (m.paren at) fs u us g.stop t vs q ∙ ap (λ b. cond b (goes (outside (m.paren at ∷ fs) u e) (have whole fs u)) None) w))
-          (λ y k vs gk. got_as _ _ fs u 13 13 (place_of whole) at (inner fs u) (inner fs u) (λ z j ws gz. record { level = gz.level; place = gz.place ∙ place_paren at e; nesting = gz.nesting; stop = gz.stop })
+          (λ y k vs gk. got_as _ _ fs u 14 14 (place_of whole) at (inner fs u) (inner fs u) (λ z j ws gz. record { level = gz.level; place = gz.place ∙ place_paren at e; nesting = gz.nesting; stop = gz.stop })
             (R_reads.after_postfix whole fs u k vs (omega (arith, h)) (omega (arith, ap (λ (s : Said). s.level) (said_paren at e))) (gk.nesting ∙ g.nesting ∙ sym (marks_paren at e (first fs u))))))
 
     called_sim : (at : At) (f : List ℕ) (fs : List Frame) (u : Use) (n : ℕ) (ts : List Lexeme) → n ≡ first fs u → (s : Sign) → sign_at ts ≡ s → Sim (r.called_by T R at f s n ts) (run T ts (m.either sign.RightParen (first fs u) (have (tree.Call at f []) fs u) (operand (m.arguments at f [] ∷ fs) u))) (λ x. have x fs u) (λ x n2 us. (15 ≤ (about x).level) × (place_of x ≡ at) × (n2 ≡ inner fs u x))
@@ -569,49 +569,136 @@ module _ (T : ℕ → Bool) where
         not_close (a_character v) e = refl
         not_close (a_sign x) e = subst (λ y. m.is_sign (a_sign y) sign.RightParen ≡ false) (sym e) refl
 
-    call_end : (at : At) (f : List ℕ) (fs : List Frame) (u : Use) (n : ℕ) (ts : List Lexeme) → hole fs u ≤ 14 → n ≡ first fs u → Has (and_then (r.called T R at f n ts) (λ e. R (r.after_postfix e))) ts (m.either sign.RightParen (first fs u) (have (tree.Call at f []) fs u) (operand (m.arguments at f [] ∷ fs) u)) fs u 13 at (inner fs u)
+    call_end : (at : At) (f : List ℕ) (fs : List Frame) (u : Use) (n : ℕ) (ts : List Lexeme) → hole fs u ≤ 14 → n ≡ first fs u → Has (and_then (r.called T R at f n ts) (λ e. R (r.after_postfix e))) ts (m.either sign.RightParen (first fs u) (have (tree.Call at f []) fs u) (operand (m.arguments at f [] ∷ fs) u)) fs u 14 at (inner fs u)
     unfolding r.called
-    call_end at f fs u n ts h nn = sim_then (r.called_by T R at f (sign_at ts) n ts) _ _ (λ x. have x fs u) (λ x n2 us. (15 ≤ (about x).level) × (place_of x ≡ at) × (n2 ≡ inner fs u x)) (λ x. have x fs u) (Got 13 at (inner fs u))
+    call_end at f fs u n ts h nn = sim_then (r.called_by T R at f (sign_at ts) n ts) _ _ (λ x. have x fs u) (λ x n2 us. (15 ≤ (about x).level) × (place_of x ≡ at) × (n2 ≡ inner fs u x)) (λ x. have x fs u) (Got 14 at (inner fs u))
         (called_sim at f fs u n ts nn (sign_at ts) refl)
-        (λ x k us g. got_as _ _ fs u 13 13 (place_of x) at (inner fs u) (inner fs u) (λ z j ws gz. record { level = gz.level; place = gz.place ∙ g.1; nesting = gz.nesting; stop = gz.stop })
+        (λ x k us g. got_as _ _ fs u 14 14 (place_of x) at (inner fs u) (inner fs u) (λ z j ws gz. record { level = gz.level; place = gz.place ∙ g.1; nesting = gz.nesting; stop = gz.stop })
           (R_reads.after_postfix x fs u k us (omega (arith, h)) g.0 g.2))
 
-    named_sim : (at : At) (f : List ℕ) (fs : List Frame) (u : Use) (n : ℕ) (ts : List Lexeme) → hole fs u ≤ 14 → n ≡ first fs u → (s : Sign) → sign_at ts ≡ s → Has (r.named_by T R at f s n ts) ts (named at f fs u) fs u 13 at (inner fs u)
+    named_sim : (at : At) (f : List ℕ) (fs : List Frame) (u : Use) (n : ℕ) (ts : List Lexeme) → hole fs u ≤ 14 → n ≡ first fs u → (s : Sign) → sign_at ts ≡ s → Has (r.named_by T R at f s n ts) ts (named at f fs u) fs u 14 at (inner fs u)
     named_sim at f fs u n ts h nn sign.LeftParen is =
-        sim_then (eat T n ts) _ (run T ts (named at f fs u)) (λ x. m.either sign.RightParen (first fs u) (have (tree.Call at f []) fs u) (operand (m.arguments at f [] ∷ fs) u)) (λ x k us. Took n k) (λ x. have x fs u) (Got 13 at (inner fs u))
+        sim_then (eat T n ts) _ (run T ts (named at f fs u)) (λ x. m.either sign.RightParen (first fs u) (have (tree.Call at f []) fs u) (operand (m.arguments at f [] ∷ fs) u)) (λ x k us. Took n k) (λ x. have x fs u) (Got 14 at (inner fs u))
           (sim_eat (named at f fs u) (m.either sign.RightParen (first fs u) (have (tree.Call at f []) fs u) (operand (m.arguments at f [] ∷ fs) u)) n ts refl (λ t us q. ap (λ x. m.on_name at f fs u x) (sign_is ts t us sign.LeftParen q is) ∙ ap (λ k. goes k (m.either sign.RightParen (first fs u) (have (tree.Call at f []) fs u) (operand (m.arguments at f [] ∷ fs) u))) (sym nn)))
           (λ y k us g. call_end at f fs u k us h (g.nesting ∙ nn))
     named_sim at f fs u n ts h nn sign.LeftBracket is =
-        sim_then (eat T n ts) _ (run T ts (named at f fs u)) (λ x. operand (m.element at f ∷ fs) u) (λ x k us. Took n k) (λ x. have x fs u) (Got 13 at (inner fs u))
+        sim_then (eat T n ts) _ (run T ts (named at f fs u)) (λ x. operand (m.element at f ∷ fs) u) (λ x k us. Took n k) (λ x. have x fs u) (Got 14 at (inner fs u))
           (sim_eat (named at f fs u) (operand (m.element at f ∷ fs) u) n ts refl (λ t us q. ap (λ x. m.on_name at f fs u x) (sign_is ts t us sign.LeftBracket q is) ∙ ap (λ k. goes k (operand (m.element at f ∷ fs) u)) (sym nn)))
-          (λ y k us g. sim_then (R r.expr k us) _ (run T us (operand (m.element at f ∷ fs) u)) (λ x. have x (m.element at f ∷ fs) u) (Got 0 (place_at us) (outside (m.element at f ∷ fs) u)) (λ x. have x fs u) (Got 13 at (inner fs u))
+          (λ y k us g. sim_then (R r.expr k us) _ (run T us (operand (m.element at f ∷ fs) u)) (λ x. have x (m.element at f ∷ fs) u) (Got 0 (place_at us) (outside (m.element at f ∷ fs) u)) (λ x. have x fs u) (Got 14 at (inner fs u))
             (R_reads.expr (m.element at f ∷ fs) u k us refl (g.nesting ∙ nn))
-            (λ e i vs ge. let whole : Expr = tree.Element at f e in sim_then (expect T sign.RightBracket i vs) _ (run T vs (have e (m.element at f ∷ fs) u)) (λ x. have whole fs u) (λ x j ws. Took i j) (λ x. have x fs u) (Got 13 at (inner fs u))
+            (λ e i vs ge. let whole : Expr = tree.Element at f e in sim_then (expect T sign.RightBracket i vs) _ (run T vs (have e (m.element at f ∷ fs) u)) (λ x. have whole fs u) (λ x j ws. Took i j) (λ x. have x fs u) (Got 14 at (inner fs u))
               (sim_expect (have e (m.element at f ∷ fs) u) (have whole fs u) sign.RightBracket i vs refl
                 (λ t ws q w. shuts e (m.element at f) fs u vs ge.stop t ws q ∙ ap (λ x. m.on x sign.RightBracket (goes (outside (m.element at f ∷ fs) u e) (have whole fs u)) None) w ∙ ap (λ k. goes k (have whole fs u)) (sym ge.nesting))
                 (λ t ws q w. shuts e (m.element at f) fs u vs ge.stop t ws q ∙ ap (λ b. cond b (goes (outside (m.element at f ∷ fs) u e) (have whole fs u)) None) w))
-              (λ y2 j ws gj. got_as _ _ fs u 13 13 (place_of whole) at (inner fs u) (inner fs u) (λ z l os gz. record { level = gz.level; place = gz.place ∙ place_element at f e; nesting = gz.nesting; stop = gz.stop })
+              (λ y2 j ws gj. got_as _ _ fs u 14 14 (place_of whole) at (inner fs u) (inner fs u) (λ z l os gz. record { level = gz.level; place = gz.place ∙ place_element at f e; nesting = gz.nesting; stop = gz.stop })
                 (R_reads.after_postfix whole fs u j ws (omega (arith, h)) (omega (arith, ap (λ (s : Said). s.level) (said_element at f e))) (gj.nesting ∙ ge.nesting ∙ sym (marks_element at f e (first fs u)))))))
     named_sim at f fs u n ts h nn s is =
         let name : Expr = tree.Name at f in
-        sim_as (R (r.after_postfix name) n ts) (run T ts (named at f fs u)) (run T ts (have name fs u)) (λ x. have x fs u) (Got 13 at (inner fs u))
+        sim_as (R (r.after_postfix name) n ts) (run T ts (named at f fs u)) (run T ts (have name fs u)) (λ x. have x fs u) (Got 14 at (inner fs u))
           (same_run (named at f fs u) (have name fs u) ts refl (λ t us q. let w = sign_is ts t us s q is in ap (λ x. m.on_name at f fs u x) w ∙ ap (λ x. offer x name fs u) (sym w)))
-          (got_as _ _ fs u 13 13 (place_of name) at (inner fs u) (inner fs u) (λ z l os gz. record { level = gz.level; place = gz.place ∙ place_name at f; nesting = gz.nesting; stop = gz.stop })
+          (got_as _ _ fs u 14 14 (place_of name) at (inner fs u) (inner fs u) (λ z l os gz. record { level = gz.level; place = gz.place ∙ place_name at f; nesting = gz.nesting; stop = gz.stop })
             (R_reads.after_postfix name fs u n ts (omega (arith, h)) (omega (arith, ap (λ (s : Said). s.level) (said_name at f))) (omega (arith, nn, ap (λ (s : Said). s.marks) (said_name at f)))))
 
     -- an operand of one word
-    literal_sim : (at : At) (e : Expr) (w : Word) (fs : List Frame) (u : Use) (n : ℕ) (ts : List Lexeme) → hole fs u ≤ 14 → n ≡ first fs u → word_at ts ≡ w → at ≡ place_at ts → ((q : At) → m.on_operand at w fs u ≡ goes (first fs u) (have e fs u)) → 15 ≤ (about e).level → place_of e ≡ at → (about e).marks ≡ 0 → Has (and_then (eat T n ts) (λ x. R (r.after_postfix e))) ts (operand fs u) fs u 13 at (inner fs u)
+    literal_sim : (at : At) (e : Expr) (w : Word) (fs : List Frame) (u : Use) (n : ℕ) (ts : List Lexeme) → hole fs u ≤ 14 → n ≡ first fs u → word_at ts ≡ w → at ≡ place_at ts → ((q : At) → m.on_operand at w fs u ≡ goes (first fs u) (have e fs u)) → 15 ≤ (about e).level → place_of e ≡ at → (about e).marks ≡ 0 → Has (and_then (eat T n ts) (λ x. R (r.after_postfix e))) ts (operand fs u) fs u 14 at (inner fs u)
     literal_sim at e w fs u n ts h nn is here does l pl mk =
-        sim_then (eat T n ts) _ (run T ts (operand fs u)) (λ x. have e fs u) (λ x k us. Took n k) (λ x. have x fs u) (Got 13 at (inner fs u))
+        sim_then (eat T n ts) _ (run T ts (operand fs u)) (λ x. have e fs u) (λ x k us. Took n k) (λ x. have x fs u) (Got 14 at (inner fs u))
           (sim_eat (operand fs u) (have e fs u) n ts refl (λ t us q. ap (λ y. m.on_operand t.at y fs u) (word_at_is ts t us w q is) ∙ ap (λ y. m.on_operand y w fs u) (place_is ts t us q ∙ sym here) ∙ does at ∙ ap (λ k. goes k (have e fs u)) (sym nn)))
-          (λ y k us g. got_as _ _ fs u 13 13 (place_of e) at (inner fs u) (inner fs u) (λ z j ws gz. record { level = gz.level; place = gz.place ∙ pl; nesting = gz.nesting; stop = gz.stop })
+          (λ y k us g. got_as _ _ fs u 14 14 (place_of e) at (inner fs u) (inner fs u) (λ z j ws gz. record { level = gz.level; place = gz.place ∙ pl; nesting = gz.nesting; stop = gz.stop })
             (R_reads.after_postfix e fs u k us (omega (arith, h)) l (omega (arith, g.nesting, nn, mk))))
 
-    primary_sim : (at : At) (fs : List Frame) (u : Use) (n : ℕ) (ts : List Lexeme) → hole fs u ≤ 14 → n ≡ first fs u → at ≡ place_at ts → ((x : Sign) → word_at ts ≡ a_sign x → m.prefix at x fs u ≡ None) → (w : Word) → word_at ts ≡ w → Has (r.primary_by T R at w n ts) ts (operand fs u) fs u 13 at (inner fs u)
+    primary_sim : (at : At) (fs : List Frame) (u : Use) (n : ℕ) (ts : List Lexeme) → hole fs u ≤ 14 → n ≡ first fs u → at ≡ place_at ts → ((x : Sign) → word_at ts ≡ a_sign x → m.prefix at x fs u ≡ None) → (w : Word) → word_at ts ≡ w → Has (r.primary_by T R at w n ts) ts (operand fs u) fs u 14 at (inner fs u)
     unfolding r.named
-    primary_sim at fs u n ts h nn here no_sign (a_name f) is = sim_then (eat T n ts) _ (run T ts (operand fs u)) (λ x. named at f fs u) (λ x k us. Took n k) (λ x. have x fs u) (Got 13 at (inner fs u))
+    primary_sim at fs u n ts h nn here no_sign (a_name f) is = sim_then (eat T n ts) _ (run T ts (operand fs u)) (λ x. named at f fs u) (λ x k us. Took n k) (λ x. have x fs u) (Got 14 at (inner fs u))
         (sim_eat (operand fs u) (named at f fs u) n ts refl (λ t us q. ap (λ y. m.on_operand t.at y fs u) (word_at_is ts t us (a_name f) q is) ∙ ap (λ y. goes (first fs u) (named y f fs u)) (place_is ts t us q ∙ sym here) ∙ ap (λ k. goes k (named at f fs u)) (sym nn)))
         (λ y k us g. named_sim at f fs u k us h (g.nesting ∙ nn) (sign_at us) refl)
     primary_sim at fs u n ts h nn here no_sign (a_number v d k) is = literal_sim at (tree.Number at v d k) (a_number v d k) fs u n ts h nn is here (λ q. refl) (omega (arith, ap (λ (s : Said). s.level) (said_number at v d k))) (place_number at v d k) (ap (λ (s : Said). s.marks) (said_number at v d k))
     primary_sim at fs u n ts h nn here no_sign (a_character v) is = literal_sim at (tree.Character at v) (a_character v) fs u n ts h nn is here (λ q. refl) (omega (arith, ap (λ (s : Said). s.level) (said_character at v))) (place_character at v) (ap (λ (s : Said). s.marks) (said_character at v))
-    primary_sim at fs u n ts h nn here no_sign (a_sign x) is = sim_wrong (operand fs u) n ts (λ x. have x fs u) (Got 13 at (inner fs u)) refl (λ t us q. ap (λ y. m.on_operand t.at y fs u) (word_at_is ts t us (a_sign x) q is) ∙ ap (λ y. m.prefix y x fs u) (place_is ts t us q ∙ sym here) ∙ no_sign x is)
+    primary_sim at fs u n ts h nn here no_sign (a_sign x) is = sim_wrong (operand fs u) n ts (λ x. have x fs u) (Got 14 at (inner fs u)) refl (λ t us q. ap (λ y. m.on_operand t.at y fs u) (word_at_is ts t us (a_sign x) q is) ∙ ap (λ y. m.prefix y x fs u) (place_is ts t us q ∙ sym here) ∙ no_sign x is)
+
+    word_sign : (ts : List Lexeme) (x : Sign) → word_at ts ≡ a_sign x → sign_at ts ≡ x
+    unfolding word_at sign_at
+    word_sign [] x e = let f : sign.End ≡ x = cc in f
+    word_sign (t ∷ ts) x e = ap sign_of_word e
+
+    -- ---- unary
+
+    -- the first word of an operand is this sign
+    prefix_step : (ts : List Lexeme) (x : Sign) (at : At) (fs : List Frame) (u : Use) (n : ℕ) (s2 : State) → sign_at ts ≡ x → same x sign.Other ≡ false → at ≡ place_at ts → m.prefix at x fs u ≡ Some (n, s2) → (t : Lexeme) (us : List Lexeme) → ts ≡ t ∷ us → step (operand fs u) t ≡ Some (n, s2)
+    prefix_step ts x at fs u n s2 is other here does t us q = ap (λ w. m.on_operand t.at w fs u) (word_is t.word x (sign_is ts t us x q is) other) ∙ ap (λ y. m.prefix y x fs u) (place_is ts t us q ∙ sym here) ∙ does
+
+    stepped_sim : (at : At) (o : StepOperator) (x : Sign) (fs : List Frame) (u : Use) (n : ℕ) (ts : List Lexeme) → hole fs u ≤ 14 → n ≡ first fs u → sign_at ts ≡ x → same x sign.Other ≡ false → at ≡ place_at ts → m.prefix at x fs u ≡ goes (first fs u) (operand (m.before at o ∷ fs) u) → Has (r.stepped T R at o n ts) ts (operand fs u) fs u 14 at (inner fs u)
+    unfolding r.stepped
+    stepped_sim at o x fs u n ts h nn is other here does = sim_then (counted T n ts) _ (run T ts (operand fs u)) (λ x. operand (m.before at o ∷ fs) u) (λ x k us. Took (suc n) k) (λ x. have x fs u) (Got 14 at (inner fs u))
+        (sim_counted (operand fs u) (operand (m.before at o ∷ fs) u) n ts refl (prefix_step ts x at fs u n _ is other here (does ∙ ap (λ k. goes k (operand (m.before at o ∷ fs) u)) (sym nn))))
+        (λ y k us g. sim_then (R r.unary k us) _ (run T us (operand (m.before at o ∷ fs) u)) (λ x. have x (m.before at o ∷ fs) u) (Got 14 (place_at us) (inner (m.before at o ∷ fs) u)) (λ x. have x fs u) (Got 14 at (inner fs u))
+          (R_reads.unary (m.before at o ∷ fs) u k us (omega arith) (λ le. absurd (omega (arith, le))) (omega (arith, g.nesting, nn)))
+          (λ e i vs ge. let whole : Expr = tree.Before at o e in (full e whole (m.before at o) fs u vs (λ s more. refl) ge.stop refl,
+            record { level = omega (arith, ap (λ (s : Said). s.level) (said_before at o e)); place = place_before at o e; nesting = omega (arith, ge.nesting, ap (λ (s : Said). s.marks) (said_before at o e)); stop = stop_other (op_of (sign_at vs)) e whole ge.stop })))
+      where
+        stop_other : (o : Op) (e y : Expr) → Stop 14 o e → Stop 14 o y
+        stop_other (m.assigns o) e y h = λ g. absurd (omega (arith, g))
+        stop_other m.closes e y h = tt
+        stop_other (m.joins o) e y h = h
+        stop_other (m.steps o) e y h = h
+        stop_other m.asks e y h = h
+        stop_other m.commas e y h = h
+
+    signed_sim : (at : At) (o : UnaryOperator) (x : Sign) (fs : List Frame) (u : Use) (n : ℕ) (ts : List Lexeme) → hole fs u ≤ 14 → n ≡ first fs u → sign_at ts ≡ x → same x sign.Other ≡ false → at ≡ place_at ts → m.prefix at x fs u ≡ goes (first fs u) (operand (m.unary at o ∷ fs) u) → Has (r.signed T R at o n ts) ts (operand fs u) fs u 14 at (inner fs u)
+    unfolding r.signed
+    signed_sim at o x fs u n ts h nn is other here does = sim_then (counted T n ts) _ (run T ts (operand fs u)) (λ x. operand (m.unary at o ∷ fs) u) (λ x k us. Took (suc n) k) (λ x. have x fs u) (Got 14 at (inner fs u))
+        (sim_counted (operand fs u) (operand (m.unary at o ∷ fs) u) n ts refl (prefix_step ts x at fs u n _ is other here (does ∙ ap (λ k. goes k (operand (m.unary at o ∷ fs) u)) (sym nn))))
+        (λ y k us g. sim_then (R r.cast k us) _ (run T us (operand (m.unary at o ∷ fs) u)) (λ x. have x (m.unary at o ∷ fs) u) (Got 13 (place_at us) (inner (m.unary at o ∷ fs) u)) (λ x. have x fs u) (Got 14 at (inner fs u))
+          (R_reads.cast (m.unary at o ∷ fs) u k us (omega arith) (omega (arith, g.nesting, nn)))
+          (λ e i vs ge. let whole : Expr = tree.Unary at o e in (full e whole (m.unary at o) fs u vs (λ s more. refl) ge.stop refl,
+            record { level = omega (arith, ap (λ (s : Said). s.level) (said_unary at o e)); place = place_unary at o e; nesting = omega (arith, ge.nesting, ap (λ (s : Said). s.marks) (said_unary at o e)); stop = stop_other (op_of (sign_at vs)) e whole ge.stop })))
+      where
+        stop_other : (o : Op) (e y : Expr) → Stop 13 o e → Stop 14 o y
+        stop_other (m.assigns o) e y h = λ g. absurd (omega (arith, g))
+        stop_other m.closes e y h = tt
+        stop_other (m.joins o) e y h = omega (arith, h)
+        stop_other (m.steps o) e y h = omega (arith, h)
+        stop_other m.asks e y h = omega arith
+        stop_other m.commas e y h = omega arith
+
+    unary_sim : (at : At) (fs : List Frame) (u : Use) (n : ℕ) (ts : List Lexeme) → hole fs u ≤ 14 → (hole fs u ≤ 13 → sign_at ts ≡ sign.LeftParen → ⊥) → n ≡ first fs u → at ≡ place_at ts → (s : Sign) → sign_at ts ≡ s → Has (r.unary_by T R at s n ts) ts (operand fs u) fs u 14 at (inner fs u)
+    unfolding r.primary
+    unary_sim at fs u n ts h np nn here sign.Increment is = stepped_sim at step_.Increment sign.Increment fs u n ts h nn is refl here refl
+    unary_sim at fs u n ts h np nn here sign.Decrement is = stepped_sim at step_.Decrement sign.Decrement fs u n ts h nn is refl here refl
+    unary_sim at fs u n ts h np nn here sign.Plus is = signed_sim at unary_.Plus sign.Plus fs u n ts h nn is refl here refl
+    unary_sim at fs u n ts h np nn here sign.Minus is = signed_sim at unary_.Minus sign.Minus fs u n ts h nn is refl here refl
+    unary_sim at fs u n ts h np nn here sign.Tilde is = signed_sim at unary_.Complement sign.Tilde fs u n ts h nn is refl here refl
+    unary_sim at fs u n ts h np nn here sign.Exclamation is = signed_sim at unary_.Not sign.Exclamation fs u n ts h nn is refl here refl
+    unary_sim at fs u n ts h np nn here sign.LeftParen is = sim_then (eat T n ts) _ (run T ts (operand fs u)) (λ x. opened at fs u) (λ x k us. Took n k) (λ x. have x fs u) (Got 14 at (inner fs u))
+        (sim_eat (operand fs u) (opened at fs u) n ts refl (prefix_step ts sign.LeftParen at fs u n _ is refl here (ap (λ k. goes k (opened at fs u)) (sym nn))))
+        (λ y k us g. sim_as (r.parenthesis T R at k us) (run T us (opened at fs u)) (run T us (operand (m.paren at ∷ fs) u)) (λ x. have x fs u) (Got 14 at (inner fs u))
+          (same_run (opened at fs u) (operand (m.paren at ∷ fs) u) us refl (λ t vs q. never_type t.at t.word (type_of (sign_of_word t.word)) refl))
+          (parenthesis_sim at fs u k us h (g.nesting ∙ nn)))
+      where
+        high : nat_le (hole fs u) 13 ≡ false
+        high = by_hole (nat_le (hole fs u) 13) refl
+          where
+            by_hole : (b : Bool) → nat_le (hole fs u) 13 ≡ b → b ≡ false
+            by_hole false e = refl
+            by_hole true e = absurd (np (leb-true (hole fs u) 13 e) is)
+
+        type_none : (w : Word) (ty : TypeWords) (p : At) → type_of (sign_of_word w) ≡ Some ty → m.on_operand p w (m.paren at ∷ fs) u ≡ None
+        type_none (a_name x) ty p e = absurd cc
+        type_none (a_number v d x) ty p e = absurd cc
+        type_none (a_character v) ty p e = absurd cc
+        type_none (a_sign sign.Char) ty p e = refl
+        type_none (a_sign sign.Int) ty p e = refl
+        type_none (a_sign sign.Signed) ty p e = refl
+        type_none (a_sign sign.Unsigned) ty p e = refl
+        type_none (a_sign _) ty p e = absurd cc
+
+        never_type : (p : At) (w : Word) (o : Option TypeWords) → type_of (sign_of_word w) ≡ o → m.on_opened at p w o fs u ≡ m.on_operand p w (m.paren at ∷ fs) u
+        never_type p w None e = refl
+        never_type p w (Some ty) e = ap (λ b. cond b (goes (first fs u) (casting at ty fs u)) None) high ∙ sym (type_none w ty p e)
+    unary_sim at fs u n ts h np nn here s is = primary_sim at fs u n ts h nn here (λ x e. no_prefix x (sign_same x e)) (word_at ts) refl
+      where
+        sign_same : (x : Sign) → word_at ts ≡ a_sign x → x ≡ s
+        sign_same x e = sym (word_sign ts x e) ∙ is
+
+        no_prefix : (x : Sign) → x ≡ s → m.prefix at x fs u ≡ None
+        no_prefix x e = subst (λ y. m.prefix at y fs u ≡ None) (sym e) refl

@@ -25,7 +25,7 @@ use Rattle.c_grammar.specs.declared.sign.Sign.{Sign}
 use Rattle.c_grammar.specs.declared.sign.Sign.TheVariants as sign
 use Rattle.c_grammar.specs.Words.{Word, a_name, a_number, a_character, a_sign, sign_of_word, Lexeme}
 use Rattle.c_grammar.specs.Operators.{precedence, binary_sign, assign_sign, unary_sign, step_sign}
-use Rattle.c_grammar.specs.Phrases.{Leaf, leaf, Said, Part, sub, stands, is_at, same_place, entry, behind, leaves_of, leaves_at, all_fit, commas, the_sign, operator}
+use Rattle.c_grammar.specs.Phrases.{Leaf, leaf, Said, Part, sub, stands, is_at, same_place, entry, behind, leaves_of, leaves_at, all_fit, marks_of, commas, the_sign, operator}
 use Rattle.c_grammar.specs.Grammar.{about, expression, type, assign}
 use Rattle.c_grammar.specs.Spelling.{Stands}
 use Rattle.c_reading.specs.Parsers.{Trouble, Wrong, Deep, Out, same, Read, Parser, ◌>>=◌, ◌>>◌, and_then, pure, wrong, out, peek, word_at, place_at, sign_at, eat, expect, more, deeper, counted, phrase}
@@ -369,6 +369,47 @@ module _ (T : ℕ → Bool) where
   shuts : (e : Expr) (f : Frame) (fs : List Frame) (u : Use) (ts : List Lexeme) → Stop (hole (f ∷ fs) u) (op_of (sign_at ts)) e → (t : Lexeme) (us : List Lexeme) → ts ≡ t ∷ us → step (have e (f ∷ fs) u) t ≡ shut f e fs u (sign_of_word t.word) (offer (sign_of_word t.word) (fill f e) fs u)
   shuts e f fs u ts st t us q = let s : Sign = sign_of_word t.word in ap (λ b. cond b (push (op_of s) e (f ∷ fs) u) (shut f e fs u s (offer s (fill f e) fs u))) (stop_takes (f ∷ fs) u (op_of s) e (subst (λ y. Stop (hole (f ∷ fs) u) (op_of y) e) (sym (sign_is ts t us (sign_at ts) q refl)) st))
 
+  -- ---- types
+
+  -- what the words of a type do
+  pub record Words (s0 : State) (c : TypeWords → State) (n : ℕ) (ts : List Lexeme) : Type 0 where
+    pub begins : (t : Lexeme) (us : List Lexeme) → ts ≡ t ∷ us → (ty : TypeWords) → type_of (sign_of_word t.word) ≡ Some ty → step s0 t ≡ Some (n, c ty)
+    pub others : (t : Lexeme) (us : List Lexeme) → ts ≡ t ∷ us → type_of (sign_of_word t.word) ≡ None → step s0 t ≡ None
+    pub extends : (t : Lexeme) (ty v : TypeWords) → joined ty (sign_of_word t.word) ≡ Some v → step (c ty) t ≡ Some (n, c v)
+    pub open_first : at_end s0 ≡ Err (Wrong 0)
+    pub open_last : (ty : TypeWords) → at_end (c ty) ≡ Err (Wrong 0)
+
+  joined_twice : (ty : TypeWords) (x y : Sign) (v : TypeWords) → joined ty x ≡ Some v → joined v y ≡ None
+  joined_twice words.Char sign.Signed y v e = let f : words.CharSigned ≡ v = cc in subst (λ z. joined z y ≡ None) f refl
+  joined_twice words.Char sign.Unsigned y v e = let f : words.CharUnsigned ≡ v = cc in subst (λ z. joined z y ≡ None) f refl
+  joined_twice words.Int sign.Signed y v e = let f : words.IntSigned ≡ v = cc in subst (λ z. joined z y ≡ None) f refl
+  joined_twice words.Int sign.Unsigned y v e = let f : words.IntUnsigned ≡ v = cc in subst (λ z. joined z y ≡ None) f refl
+  joined_twice words.Signed sign.Char y v e = let f : words.SignedChar ≡ v = cc in subst (λ z. joined z y ≡ None) f refl
+  joined_twice words.Signed sign.Int y v e = let f : words.SignedInt ≡ v = cc in subst (λ z. joined z y ≡ None) f refl
+  joined_twice words.Unsigned sign.Char y v e = let f : words.UnsignedChar ≡ v = cc in subst (λ z. joined z y ≡ None) f refl
+  joined_twice words.Unsigned sign.Int y v e = let f : words.UnsignedInt ≡ v = cc in subst (λ z. joined z y ≡ None) f refl
+  joined_twice _ _ y v e = absurd cc
+
+  pub record Typed (n : ℕ) (w : TypeWords) (k : ℕ) (us : List Lexeme) : Type 0 where
+    pub nesting : k ≡ n
+    pub ended : joined w (sign_at us) ≡ None
+
+  pub types_sim : (s0 : State) (c : TypeWords → State) (n : ℕ) (ts : List Lexeme) → Words s0 c n ts → Sim (r.type_words T n ts) (run T ts s0) c (Typed n)
+  unfolding r.type_words q.type_of q.joined
+  types_sim s0 c n ts y = by_first (type_of (sign_at ts)) refl
+    where
+      by_second : (w : TypeWords) (k : ℕ) (us : List Lexeme) → k ≡ n → (o : Option TypeWords) → joined w (sign_at us) ≡ o → Sim (r.second_word T w o k us) (run T us (c w)) c (Typed n)
+      by_second w k us e None is = (refl, record { nesting = e; ended = is })
+      by_second w k us e (Some v) is = sim_then (eat T k us) _ (run T us (c w)) (λ x. c v) (λ x j vs. Took k j) c (Typed n)
+          (sim_eat (c w) (c v) k us (y.open_last w) (λ t vs q. y.extends t w v (ap (λ x. joined w x) (sign_is us t vs (sign_at us) q refl) ∙ is) ∙ ap (λ i. goes i (c v)) (sym e)))
+          (λ x j vs g. (refl, record { nesting = g.nesting ∙ e; ended = joined_twice w (sign_at us) (sign_at vs) v is }))
+
+      by_first : (o : Option TypeWords) → type_of (sign_at ts) ≡ o → Sim (r.first_word T o n ts) (run T ts s0) c (Typed n)
+      by_first None is = sim_wrong {A = TypeWords} s0 n ts c (Typed n) y.open_first (λ t us q. y.others t us q (ap type_of (sign_is ts t us (sign_at ts) q refl) ∙ is))
+      by_first (Some w) is = sim_then (eat T n ts) _ (run T ts s0) (λ x. c w) (λ x k us. Took n k) c (Typed n)
+          (sim_eat s0 (c w) n ts y.open_first (λ t us q. y.begins t us q w (ap type_of (sign_is ts t us (sign_at ts) q refl) ∙ is)))
+          (λ x k us g. by_second w k us g.nesting (joined w (sign_at us)) refl)
+
   module _ (R : r.Reader) (R_reads : Reads R) where
     -- ---- commas
 
@@ -702,3 +743,67 @@ module _ (T : ℕ → Bool) where
 
         no_prefix : (x : Sign) → x ≡ s → m.prefix at x fs u ≡ None
         no_prefix x e = subst (λ y. m.prefix at y fs u ≡ None) (sym e) refl
+
+    -- ---- casts
+
+    marks_cast : (at : At) (ty : TypeWords) (e : Expr) (n : ℕ) → n + (about (tree.Cast at ty e)).marks ≡ suc n + (about e).marks
+    marks_cast at ty e n = ap (λ (s : Said). n + s.marks) (said_cast at ty e) ∙ omega (arith, typed_marks ty)
+      where
+        typed_marks : (ty : TypeWords) → marks_of (type ty ++ operator sign.RightParen ∷ sub 13 (about e) ∷ []) ≡ suc ((about e).marks + 0)
+        typed_marks words.Char = refl
+        typed_marks words.Int = refl
+        typed_marks words.Signed = refl
+        typed_marks words.Unsigned = refl
+        typed_marks _ = refl
+
+    cast_end : (at : At) (ty : TypeWords) (fs : List Frame) (u : Use) (n : ℕ) (ts : List Lexeme) → n ≡ first fs u → joined ty (sign_at ts) ≡ None → Has ((expect T sign.RightParen >>= (λ x. deeper >>= (λ y. R r.cast >>= (λ e. pure (tree.Cast at ty e))))) n ts) ts (casting at ty fs u) fs u 13 at (inner fs u)
+    cast_end at ty fs u n ts nn none = sim_then (expect T sign.RightParen n ts) _ (run T ts (casting at ty fs u)) (λ x. operand (m.cast at ty ∷ fs) u) (λ x k us. Took n k) (λ x. have x fs u) (Got 13 at (inner fs u))
+        (sim_expect (casting at ty fs u) (operand (m.cast at ty ∷ fs) u) sign.RightParen n ts refl
+          (λ t us q w. at_none t us q ∙ ap (λ x. m.on x sign.RightParen (goes (first fs u) (operand (m.cast at ty ∷ fs) u)) None) w ∙ ap (λ k. goes k (operand (m.cast at ty ∷ fs) u)) (sym nn))
+          (λ t us q w. at_none t us q ∙ ap (λ b. cond b (goes (first fs u) (operand (m.cast at ty ∷ fs) u)) None) w))
+        (λ y k us g. sim_then (R r.cast (suc k) us) _ (run T us (operand (m.cast at ty ∷ fs) u)) (λ x. have x (m.cast at ty ∷ fs) u) (Got 13 (place_at us) (inner (m.cast at ty ∷ fs) u)) (λ x. have x fs u) (Got 13 at (inner fs u))
+          (R_reads.cast (m.cast at ty ∷ fs) u (suc k) us (omega arith) (omega (arith, g.nesting, nn)))
+          (λ e i vs ge. let whole : Expr = tree.Cast at ty e in let lv = ap (λ (s : Said). s.level) (said_cast at ty e) in
+            (full e whole (m.cast at ty) fs u vs (λ s more. refl) ge.stop refl, record { level = omega (arith, lv); place = place_cast at ty e; nesting = ge.nesting ∙ sym (marks_cast at ty e (first fs u)); stop = stop_same 13 _ e whole (omega (arith, lv)) ge.stop })))
+      where
+        at_none : (t : Lexeme) (us : List Lexeme) → ts ≡ t ∷ us → step (casting at ty fs u) t ≡ m.on (sign_of_word t.word) sign.RightParen (goes (first fs u) (operand (m.cast at ty ∷ fs) u)) None
+        at_none t us q = ap (λ o. m.on_casting at ty (sign_of_word t.word) o fs u) (ap (λ x. joined ty x) (sign_is ts t us (sign_at ts) q refl) ∙ none)
+
+    stop_down : (o : Op) (e : Expr) → Stop 14 o e → Stop 13 o e
+    stop_down (m.assigns o) e h = λ g. absurd (omega (arith, g))
+    stop_down m.closes e h = tt
+    stop_down (m.joins o) e h = omega (arith, prec_high o)
+    stop_down (m.steps o) e h = absurd (omega (arith, h))
+    stop_down m.asks e h = omega arith
+    stop_down m.commas e h = omega arith
+
+    lower : (a : Read Expr) (v : Outcome) (fs : List Frame) (u : Use) (p : At) → Sim a v (λ x. have x fs u) (Got 14 p (inner fs u)) → Sim a v (λ x. have x fs u) (Got 13 p (inner fs u))
+    lower a v fs u p s = got_as a v fs u 14 13 p p (inner fs u) (inner fs u) (λ x n us g. record { level = omega (arith, g.level); place = g.place; nesting = g.nesting; stop = stop_down _ x g.stop }) s
+
+    parenthesised_sim : (at : At) (fs : List Frame) (u : Use) (n : ℕ) (ts : List Lexeme) → hole fs u ≤ 13 → n ≡ first fs u → (o : Option TypeWords) → type_of (sign_at ts) ≡ o → Has (r.cast_or_parenthesis_by T R at o n ts) ts (opened at fs u) fs u 13 at (inner fs u)
+    parenthesised_sim at fs u n ts h nn None is = lower _ _ fs u at (sim_as (r.parenthesis T R at n ts) (run T ts (opened at fs u)) (run T ts (operand (m.paren at ∷ fs) u)) (λ x. have x fs u) (Got 14 at (inner fs u))
+        (same_run (opened at fs u) (operand (m.paren at ∷ fs) u) ts refl (λ t us q. ap (λ o. m.on_opened at t.at t.word o fs u) (ap type_of (sign_is ts t us (sign_at ts) q refl) ∙ is)))
+        (parenthesis_sim at fs u n ts (omega (arith, h)) nn))
+    parenthesised_sim at fs u n ts h nn (Some ty) is = sim_then (r.type_words T n ts) _ (run T ts (opened at fs u)) (λ w. casting at w fs u) (Typed n) (λ x. have x fs u) (Got 13 at (inner fs u))
+        (types_sim (opened at fs u) (λ w. casting at w fs u) n ts (record {
+          begins = λ t us q w e. ap (λ o. m.on_opened at t.at t.word o fs u) e ∙ ap (λ b. cond b (goes (first fs u) (casting at w fs u)) None) (le-leb _ _ h) ∙ ap (λ k. goes k (casting at w fs u)) (sym nn);
+          others = λ t us q e. absurd (some_none ty (sym is ∙ ap type_of (sym (sign_is ts t us (sign_at ts) q refl)) ∙ e));
+          extends = λ t w v e. ap (λ o. m.on_casting at w (sign_of_word t.word) o fs u) e ∙ ap (λ k. goes k (casting at v fs u)) (sym nn);
+          open_first = refl;
+          open_last = λ w. refl;
+        }))
+        (λ w k us g. cast_end at w fs u k us (g.nesting ∙ nn) g.ended)
+      where
+        some_none : (w : TypeWords) → Some w ≡ None → ⊥
+        some_none w e = absurd cc
+
+    cast_sim : (at : At) (fs : List Frame) (u : Use) (n : ℕ) (ts : List Lexeme) → hole fs u ≤ 13 → n ≡ first fs u → at ≡ place_at ts → (s : Sign) → sign_at ts ≡ s → Has (r.cast_by T R at s n ts) ts (operand fs u) fs u 13 at (inner fs u)
+    unfolding r.cast_or_parenthesis q.type_of
+    cast_sim at fs u n ts h nn here sign.LeftParen is = sim_then (eat T n ts) _ (run T ts (operand fs u)) (λ x. opened at fs u) (λ x k us. Took n k) (λ x. have x fs u) (Got 13 at (inner fs u))
+        (sim_eat (operand fs u) (opened at fs u) n ts refl (prefix_step ts sign.LeftParen at fs u n _ is refl here (ap (λ k. goes k (opened at fs u)) (sym nn))))
+        (λ y k us g. parenthesised_sim at fs u k us h (g.nesting ∙ nn) (type_of (sign_at us)) refl)
+    cast_sim at fs u n ts h nn here s is = lower _ _ fs u at (got_as _ _ fs u 14 14 (place_at ts) at (inner fs u) (inner fs u) (λ x k us g. record { level = g.level; place = g.place ∙ sym here; nesting = g.nesting; stop = g.stop })
+        (R_reads.unary fs u n ts (omega (arith, h)) (λ le p. not_paren (sym is ∙ p)) nn))
+      where
+        not_paren : s ≡ sign.LeftParen → ⊥
+        not_paren e = absurd cc

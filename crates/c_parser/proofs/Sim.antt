@@ -369,6 +369,28 @@ module _ (T : ℕ → Bool) where
   shuts : (e : Expr) (f : Frame) (fs : List Frame) (u : Use) (ts : List Lexeme) → Stop (hole (f ∷ fs) u) (op_of (sign_at ts)) e → (t : Lexeme) (us : List Lexeme) → ts ≡ t ∷ us → step (have e (f ∷ fs) u) t ≡ shut f e fs u (sign_of_word t.word) (offer (sign_of_word t.word) (fill f e) fs u)
   shuts e f fs u ts st t us q = let s : Sign = sign_of_word t.word in ap (λ b. cond b (push (op_of s) e (f ∷ fs) u) (shut f e fs u s (offer s (fill f e) fs u))) (stop_takes (f ∷ fs) u (op_of s) e (subst (λ y. Stop (hole (f ∷ fs) u) (op_of y) e) (sym (sign_is ts t us (sign_at ts) q refl)) st))
 
+  -- ---- lists
+
+  pub sim_more : (s more_ end_ : State) (close : Sign) (n : ℕ) (ts : List Lexeme) → at_end s ≡ Err (Wrong 0)
+      → ((t : Lexeme) (us : List Lexeme) → ts ≡ t ∷ us → sign_of_word t.word ≡ sign.Comma → step s t ≡ Some (n, more_))
+      → ((t : Lexeme) (us : List Lexeme) → ts ≡ t ∷ us → sign_of_word t.word ≡ close → step s t ≡ Some (n, end_))
+      → ((t : Lexeme) (us : List Lexeme) → ts ≡ t ∷ us → same (sign_of_word t.word) sign.Comma ≡ false → same (sign_of_word t.word) close ≡ false → step s t ≡ None)
+      → Sim (more T close n ts) (run T ts s) (λ b. cond b more_ end_) (λ b k us. Took n k)
+  unfolding more
+  sim_more s more_ end_ close n ts e comma_ close_ neither = by_comma (same (sign_at ts) sign.Comma) refl
+    where
+      by_close : (b : Bool) → same (sign_at ts) close ≡ b → same (sign_at ts) sign.Comma ≡ false → Sim ((cond b (eat T >> pure false) wrong) n ts) (run T ts s) (λ b. cond b more_ end_) (λ b k us. Took n k)
+      by_close true is no_comma = sim_then (eat T n ts) _ (run T ts s) (λ x. end_) (λ x k us. Took n k) (λ b. cond b more_ end_) (λ b k us. Took n k)
+          (sim_eat s end_ n ts e (λ t us q. close_ t us q (sign_is ts t us close q (same_true the_type (search rules) (sign_at ts) close is))))
+          (λ x k us g. (refl, g))
+      by_close false is no_comma = sim_wrong {A = Bool} s n ts (λ b. cond b more_ end_) (λ b k us. Took n k) e (λ t us q. let w = sign_is ts t us (sign_at ts) q refl in neither t us q (ap (λ y. same y sign.Comma) w ∙ no_comma) (ap (λ y. same y close) w ∙ is))
+
+      by_comma : (b : Bool) → same (sign_at ts) sign.Comma ≡ b → Sim ((cond b (eat T >> pure true) (cond (same (sign_at ts) close) (eat T >> pure false) wrong)) n ts) (run T ts s) (λ b. cond b more_ end_) (λ b k us. Took n k)
+      by_comma true is = sim_then (eat T n ts) _ (run T ts s) (λ x. more_) (λ x k us. Took n k) (λ b. cond b more_ end_) (λ b k us. Took n k)
+          (sim_eat s more_ n ts e (λ t us q. comma_ t us q (sign_is ts t us sign.Comma q (same_true the_type (search rules) (sign_at ts) sign.Comma is))))
+          (λ x k us g. (refl, g))
+      by_comma false is = by_close (same (sign_at ts) close) refl is
+
   -- ---- types
 
   -- what the words of a type do
@@ -807,3 +829,63 @@ module _ (T : ℕ → Bool) where
       where
         not_paren : s ≡ sign.LeftParen → ⊥
         not_paren e = absurd cc
+
+    -- ---- arguments
+
+    abbrev Called : At → List Frame → Use → Expr → ℕ → List Lexeme → Type 0
+    Called at fs u x n2 us = (15 ≤ (about x).level) × (place_of x ≡ at) × (n2 ≡ inner fs u x)
+
+    marks_call : (at : At) (f : List ℕ) (es : List Expr) → (about (tree.Call at f es)).marks ≡ 0
+    marks_call at f es = ap (λ (s : Said). s.marks) (said_call at f es) ∙ none es
+      where
+        none : (es : List Expr) → marks_of (commas assign (map about es) ++ the_sign sign.RightParen ∷ []) ≡ 0
+        none [] = refl
+        none (x ∷ []) = refl
+        none (x ∷ y ∷ es) = none (y ∷ es)
+
+    call_sim : (at : At) (f : List ℕ) (es : List Expr) (fs : List Frame) (u : Use) (n : ℕ) (ts : List Lexeme) → n ≡ first fs u → Sim (r.step T R (r.in_call at f es) n ts) (run T ts (operand (m.arguments at f es ∷ fs) u)) (λ x. have x fs u) (Called at fs u)
+    call_sim at f es fs u n ts nn = sim_then (R r.assign n ts) _ (run T ts (operand (m.arguments at f es ∷ fs) u)) (λ x. have x (m.arguments at f es ∷ fs) u) (Got 1 (place_at ts) (λ x. spot (m.arguments at f es ∷ fs) u)) (λ x. have x fs u) (Called at fs u)
+        (R_reads.assign (m.arguments at f es ∷ fs) u n ts (omega arith) nn)
+        (λ x k us g. sim_then (more T sign.RightParen k us) _ (run T us (have x (m.arguments at f es ∷ fs) u)) (λ b. cond b (operand (m.arguments at f (es ++ x ∷ []) ∷ fs) u) (have (tree.Call at f (es ++ x ∷ [])) fs u)) (λ b i vs. Took k i) (λ x. have x fs u) (Called at fs u)
+          (sim_more (have x (m.arguments at f es ∷ fs) u) (operand (m.arguments at f (es ++ x ∷ []) ∷ fs) u) (have (tree.Call at f (es ++ x ∷ [])) fs u) sign.RightParen k us refl
+            (λ t vs q w. shuts x (m.arguments at f es) fs u us g.stop t vs q ∙ ap (λ y. shut (m.arguments at f es) x fs u y (offer (sign_of_word t.word) (fill (m.arguments at f es) x) fs u)) w ∙ ap (λ i. goes i (operand (m.arguments at f (es ++ x ∷ []) ∷ fs) u)) (sym g.nesting))
+            (λ t vs q w. shuts x (m.arguments at f es) fs u us g.stop t vs q ∙ ap (λ y. shut (m.arguments at f es) x fs u y (offer (sign_of_word t.word) (fill (m.arguments at f es) x) fs u)) w ∙ ap (λ i. goes i (have (tree.Call at f (es ++ x ∷ [])) fs u)) (sym g.nesting))
+            (λ t vs q c d. shuts x (m.arguments at f es) fs u us g.stop t vs q ∙ ap (λ b. cond b (goes (first fs u) (operand (m.arguments at f (es ++ x ∷ []) ∷ fs) u)) (m.on (sign_of_word t.word) sign.RightParen (goes (first fs u) (have (tree.Call at f (es ++ x ∷ [])) fs u)) None)) c ∙ ap (λ b. cond b (goes (first fs u) (have (tree.Call at f (es ++ x ∷ [])) fs u)) None) d))
+          (λ b i vs gi. onward x b i vs (gi.nesting ∙ g.nesting)))
+      where
+        onward : (x : Expr) (b : Bool) (i : ℕ) (vs : List Lexeme) → i ≡ first fs u → Sim ((cond b (R (r.in_call at f (es ++ x ∷ []))) (pure (tree.Call at f (es ++ x ∷ [])))) i vs) (run T vs (cond b (operand (m.arguments at f (es ++ x ∷ []) ∷ fs) u) (have (tree.Call at f (es ++ x ∷ [])) fs u))) (λ x. have x fs u) (Called at fs u)
+        onward x true i vs e = R_reads.in_call at f (es ++ x ∷ []) fs u i vs e
+        onward x false i vs e = (refl, (omega (arith, ap (λ (s : Said). s.level) (said_call at f (es ++ x ∷ []))), place_call at f (es ++ x ∷ []), omega (arith, e, marks_call at f (es ++ x ∷ []))))
+
+    pub step_reads : Reads (r.step T R)
+    step_reads = record {
+      expr = expr_sim;
+      assign = assign_sim;
+      conditional = conditional_sim;
+      binary = binary_sim;
+      cast = λ fs u n ts h nn. cast_sim (place_at ts) fs u n ts h nn refl (sign_at ts) refl;
+      unary = λ fs u n ts h np nn. unary_sim (place_at ts) fs u n ts h np nn refl (sign_at ts) refl;
+      after_comma = λ e fs u n ts h nn st. comma_sim e fs u n ts h nn st (sign_at ts) refl;
+      after_operand = operand_sim;
+      after_postfix = λ e fs u n ts h l nn. postfix_sim e fs u n ts h l nn (sign_at ts) refl;
+      in_call = call_sim;
+    }
+
+  pub nothing_reads : Reads (r.read T 0)
+  nothing_reads = record {
+    expr = λ fs u n ts h nn. tt;
+    assign = λ fs u n ts h nn. tt;
+    conditional = λ fs u n ts h nn. tt;
+    binary = λ k fs u n ts lo hi h nn. tt;
+    cast = λ fs u n ts h nn. tt;
+    unary = λ fs u n ts h np nn. tt;
+    after_comma = λ e fs u n ts h nn st. tt;
+    after_operand = λ k e fs u n ts lo hi h l nn ed. tt;
+    after_postfix = λ e fs u n ts h l nn. tt;
+    in_call = λ at f es fs u n ts nn. tt;
+  }
+
+  -- the reading of expressions, however deep its calls may go
+  pub read_reads : (d : ℕ) → Reads (r.read T d)
+  read_reads zero = nothing_reads
+  read_reads (suc d) = step_reads (r.read T d) (read_reads d)

@@ -14,3 +14,4 @@ mod StatSteps
 mod Ends
 mod Whole
 mod Sim
+mod DeclSim

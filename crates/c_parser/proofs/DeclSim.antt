@@ -3,7 +3,7 @@ use denote.Hole.Carrier
 use Rattle.c_tree.specs.declared.syntax.Expr.{out-Expr}
 use denote.Enum.Bare.{same_true}
 use Rattle.c_grammar.specs.contracts.sign.Sign.{the_type}
-use Rattle.std.proofs.Common.{rules, ◌≡◌, ℕ, ℤ, zero, suc, ◌+◌, ◌<◌, ◌≤◌, Bool, true, false, cond, nat_le, nat_lt, ◌==◌, ◌&&◌, List, [], ◌∷◌, ◌++◌, length, map, Option, Some, None, Ok, Err, refl, sym, ap, subst, ◌∙◌, append_assoc, arith}
+use Rattle.std.proofs.Common.{rules, ◌⊎◌, inl, inr, ◌≡◌, ℕ, ℤ, zero, suc, ◌+◌, ◌<◌, ◌≤◌, Bool, true, false, cond, nat_le, nat_lt, ◌==◌, ◌&&◌, List, [], ◌∷◌, ◌++◌, length, map, Option, Some, None, Ok, Err, refl, sym, ap, subst, ◌∙◌, append_assoc, arith}
 use Rattle.std.proofs.lemmas.Bool.{and_parts, leb-true, le-leb, leb-false, and_from, ltb-true, ltb-false}
 use Rattle.std.proofs.lemmas.Bool.Decides.{nat_tests}
 use Rattle.std.proofs.lemmas.List.{append-nil}
@@ -102,6 +102,12 @@ module _ (T : ℕ → Bool) where
         where
           apart : {f : List ℕ} → a_sign x ≡ a_name f → ⊥
           apart h = absurd cc
+
+  -- a sign that the machine expects
+  pub expected_sim : (x : Sign) (n0 : ℕ) (a : State) (n : ℕ) (ts : List Lexeme) → n ≡ n0 → same x sign.Other ≡ false → is_sign (a_sign x) x ≡ true → Sim T (expect T x n ts) (run T ts (m.expect x n0 a)) (λ y. a) (λ y k us. Took T n k)
+  expected_sim x n0 a n ts e other self = sim_expect T (m.expect x n0 a) a x n ts refl
+      (λ t us q w. ap (λ c. cond c (goes n0 a) None) (is_a_sign t.word x w other self) ∙ ap (λ k. goes k a) (sym e))
+      (λ t us q w. ap (λ c. cond c (goes n0 a) None) (is_no_sign t.word x w))
 
   -- ---- sizes
 
@@ -273,3 +279,126 @@ module _ (T : ℕ → Bool) where
       onward : (x : Item) (k : ℕ) (us : List Lexeme) → Sim T (d.items T b (x ∷ []) k us) (run T us (item_next at t (x ∷ []) h)) (λ xs. conclude h (declaration.Objects at t xs)) (λ y j vs. Took T k j) → (c : Bool) → Took T n k → Sim T ((cond c (d.items T b (x ∷ [])) (pure (x ∷ []))) k us) (run T us (after_object at t [] h (x, c))) (λ xs. conclude h (declaration.Objects at t xs)) (λ y j vs. Took T n j)
       onward x k us l true g = sim_weaker T _ _ (λ xs. conclude h (declaration.Objects at t xs)) _ (λ y j vs. Took T n j) (λ y j vs e. record { nesting = e.nesting ∙ g.nesting }) l
       onward x k us l false g = (refl, g)
+
+  -- ---- parameters
+
+  abbrev a_parameter : At → TypeWords → Option (List ℕ) → Parameter
+  a_parameter p t f = record { at = p; words = t; name = f }
+
+  if_any_sim : (k : Heading) (ps : List Parameter) (p : At) (ty : TypeWords) (n : ℕ) (ts : List Lexeme) → n ≡ home_nesting k.home → joined ty (sign_at ts) ≡ None → Sim T (name_if_any T n ts) (run T ts (parameter_typed k ps p ty)) (λ f. parameter_ended k (ps ++ a_parameter p ty f ∷ [])) (λ f j us. Took T n j)
+  unfolding name_if_any
+  if_any_sim k ps p ty n ts nn none = by_word (word_at ts) refl
+    where
+      at_none : (t : Lexeme) (us : List Lexeme) → ts ≡ t ∷ us → step (parameter_typed k ps p ty) t ≡ m.on_parameter_name t.word k ps p ty
+      at_none t us q = ap (λ o. m.on_typed t.word o k ps p ty) (ap (λ x. joined ty x) (sign_is T ts t us (sign_at ts) q refl) ∙ none)
+
+      no_name : ((t : Lexeme) (us : List Lexeme) → ts ≡ t ∷ us → m.on_parameter_name t.word k ps p ty ≡ m.on_parameter_end k (ps ++ a_parameter p ty None ∷ []) (sign_of_word t.word)) → Sim T (pure {A = Option (List ℕ)} None n ts) (run T ts (parameter_typed k ps p ty)) (λ f. parameter_ended k (ps ++ a_parameter p ty f ∷ [])) (λ f j us. Took T n j)
+      no_name h = (same_run T (parameter_typed k ps p ty) (parameter_ended k (ps ++ a_parameter p ty None ∷ [])) ts refl (λ t us q. at_none t us q ∙ h t us q), record { nesting = refl })
+
+      by_word : (w : Word) → word_at ts ≡ w → Sim T (name_if_any_by T w n ts) (run T ts (parameter_typed k ps p ty)) (λ f. parameter_ended k (ps ++ a_parameter p ty f ∷ [])) (λ f j us. Took T n j)
+      by_word (a_name f) is = sim_then T (eat T n ts) _ (run T ts (parameter_typed k ps p ty)) (λ x. parameter_ended k (ps ++ a_parameter p ty (Some f) ∷ [])) (λ x j us. Took T n j) (λ f. parameter_ended k (ps ++ a_parameter p ty f ∷ [])) (λ f j us. Took T n j)
+          (sim_eat T (parameter_typed k ps p ty) (parameter_ended k (ps ++ a_parameter p ty (Some f) ∷ [])) n ts refl (λ t us q. at_none t us q ∙ ap (λ w. m.on_parameter_name w k ps p ty) (word_at_is T ts t us (a_name f) q is) ∙ ap (λ j. goes j (parameter_ended k (ps ++ a_parameter p ty (Some f) ∷ []))) (sym nn)))
+          (λ x j us g. (refl, g))
+      by_word (a_number v e u) is = no_name (λ t us q. let w = word_at_is T ts t us (a_number v e u) q is in ap (λ y. m.on_parameter_name y k ps p ty) w ∙ ap (λ y. m.on_parameter_end k (ps ++ a_parameter p ty None ∷ []) (sign_of_word y)) (sym w))
+      by_word (a_character v) is = no_name (λ t us q. let w = word_at_is T ts t us (a_character v) q is in ap (λ y. m.on_parameter_name y k ps p ty) w ∙ ap (λ y. m.on_parameter_end k (ps ++ a_parameter p ty None ∷ []) (sign_of_word y)) (sym w))
+      by_word (a_sign x) is = no_name (λ t us q. let w = word_at_is T ts t us (a_sign x) q is in ap (λ y. m.on_parameter_name y k ps p ty) w ∙ ap (λ y. m.on_parameter_end k (ps ++ a_parameter p ty None ∷ []) (sign_of_word y)) (sym w))
+
+  parameter_sim : (k : Heading) (ps : List Parameter) (s : State) (n : ℕ) (ts : List Lexeme) → n ≡ home_nesting k.home → Words T s (λ ty. parameter_typed k ps (place_at ts) ty) n ts → Sim T (d.parameter T n ts) (run T ts s) (λ x. parameter_ended k (ps ++ x ∷ [])) (λ x j us. Took T n j)
+  unfolding d.parameter
+  parameter_sim k ps s n ts nn y = sim_then T (r.type_words T n ts) _ (run T ts s) (λ ty. parameter_typed k ps (place_at ts) ty) (Typed T n) (λ x. parameter_ended k (ps ++ x ∷ [])) (λ x j us. Took T n j)
+      (types_sim T s (λ ty. parameter_typed k ps (place_at ts) ty) n ts y)
+      (λ ty j us g. sim_then T (name_if_any T j us) _ (run T us (parameter_typed k ps (place_at ts) ty)) (λ f. parameter_ended k (ps ++ a_parameter (place_at ts) ty f ∷ [])) (λ f l vs. Took T j l) (λ x. parameter_ended k (ps ++ x ∷ [])) (λ x j us. Took T n j)
+        (if_any_sim k ps (place_at ts) ty j us (g.nesting ∙ nn) g.ended)
+        (λ f l vs h. (refl, record { nesting = h.nesting ∙ g.nesting })))
+
+  abbrev after_parameter : Heading → List Parameter → Parameter × Bool → State
+  after_parameter k ps x = cond x.1 (parameter_next k (ps ++ x.0 ∷ [])) (header k (parameters.List (ps ++ x.0 ∷ [])))
+
+  next_parameter_sim : (k : Heading) (ps : List Parameter) (s : State) (n : ℕ) (ts : List Lexeme) → n ≡ home_nesting k.home → Words T s (λ ty. parameter_typed k ps (place_at ts) ty) n ts → Sim T (d.next_parameter T n ts) (run T ts s) (after_parameter k ps) (λ x j us. Took T n j)
+  unfolding d.next_parameter
+  next_parameter_sim k ps s n ts nn y = sim_then T (d.parameter T n ts) _ (run T ts s) (λ x. parameter_ended k (ps ++ x ∷ [])) (λ x j us. Took T n j) (after_parameter k ps) (λ x j us. Took T n j)
+      (parameter_sim k ps s n ts nn y)
+      (λ x j us g. sim_then T (more T sign.RightParen j us) _ (run T us (parameter_ended k (ps ++ x ∷ []))) (λ c. after_parameter k ps (x, c)) (λ c l vs. Took T j l) (after_parameter k ps) (λ x j us. Took T n j)
+        (sim_more T (parameter_ended k (ps ++ x ∷ [])) (parameter_next k (ps ++ x ∷ [])) (header k (parameters.List (ps ++ x ∷ []))) sign.RightParen j us refl
+          (λ l vs q w. ap (λ y. m.on_parameter_end k (ps ++ x ∷ []) y) w ∙ ap (λ i. goes i (parameter_next k (ps ++ x ∷ []))) (sym (g.nesting ∙ nn)))
+          (λ l vs q w. ap (λ y. m.on_parameter_end k (ps ++ x ∷ []) y) w ∙ ap (λ i. goes i (header k (parameters.List (ps ++ x ∷ [])))) (sym (g.nesting ∙ nn)))
+          (λ l vs q c e. neither x (sign_of_word l.word) c e))
+        (λ c l vs h. (refl, record { nesting = h.nesting ∙ g.nesting })))
+    where
+      neither : (x : Parameter) (s : Sign) → same s sign.Comma ≡ false → same s sign.RightParen ≡ false → m.on_parameter_end k (ps ++ x ∷ []) s ≡ None
+      neither x sign.Comma c e = absurd cc
+      neither x sign.RightParen c e = absurd cc
+      neither x s c e = refl
+
+  next_words : (k : Heading) (ps : List Parameter) (n : ℕ) (ts : List Lexeme) → n ≡ home_nesting k.home → Words T (parameter_next k ps) (λ ty. parameter_typed k ps (place_at ts) ty) n ts
+  next_words k ps n ts nn = record {
+    begins = λ t us q ty e. ap (λ o. m.on_parameter t.at o k ps) e ∙ ap (λ z. goes (home_nesting k.home) (parameter_typed k ps z ty)) (place_is T ts t us q) ∙ ap (λ j. goes j (parameter_typed k ps (place_at ts) ty)) (sym nn);
+    others = λ t us q e. ap (λ o. m.on_parameter t.at o k ps) e;
+    extends = λ t ty v e. ap (λ o. m.on_typed t.word o k ps (place_at ts) ty) e ∙ ap (λ j. goes j (parameter_typed k ps (place_at ts) v)) (sym nn);
+    open_first = refl;
+    open_last = λ ty. refl;
+  }
+
+  list_sim : (b : ℕ) (k : Heading) (ps : List Parameter) (s : State) (n : ℕ) (ts : List Lexeme) → n ≡ home_nesting k.home → Words T s (λ ty. parameter_typed k ps (place_at ts) ty) n ts → Sim T (d.parameter_list T b ps n ts) (run T ts s) (λ qs. header k qs) (λ x j us. Took T n j)
+  unfolding d.parameter_list
+  list_sim zero k ps s n ts nn y = tt
+  list_sim (suc b) k ps s n ts nn y = sim_then T (d.next_parameter T n ts) _ (run T ts s) (after_parameter k ps) (λ x j us. Took T n j) (λ qs. header k qs) (λ x j us. Took T n j)
+      (next_parameter_sim k ps s n ts nn y)
+      (λ x j us g. onward x.0 j us (list_sim b k (ps ++ x.0 ∷ []) (parameter_next k (ps ++ x.0 ∷ [])) j us (g.nesting ∙ nn) (next_words k (ps ++ x.0 ∷ []) j us (g.nesting ∙ nn))) x.1 g)
+    where
+      onward : (x : Parameter) (j : ℕ) (us : List Lexeme) → Sim T (d.parameter_list T b (ps ++ x ∷ []) j us) (run T us (parameter_next k (ps ++ x ∷ []))) (λ qs. header k qs) (λ y l vs. Took T j l) → (c : Bool) → Took T n j → Sim T ((cond c (d.parameter_list T b (ps ++ x ∷ [])) (pure (parameters.List (ps ++ x ∷ [])))) j us) (run T us (after_parameter k ps (x, c))) (λ qs. header k qs) (λ y l vs. Took T n l)
+      onward x j us l true g = sim_weaker T _ _ (λ qs. header k qs) _ (λ y l vs. Took T n l) (λ y l vs e. record { nesting = e.nesting ∙ g.nesting }) l
+      onward x j us l false g = (refl, g)
+
+  parameters_sim : (b : ℕ) (k : Heading) (n : ℕ) (ts : List Lexeme) → n ≡ home_nesting k.home → (s : Sign) → sign_at ts ≡ s → Sim T (d.parameters_by T b s n ts) (run T ts (parameters_first k)) (λ qs. header k qs) (λ x j us. Took T n j)
+  parameters_sim b k n ts nn sign.RightParen is = sim_then T (eat T n ts) _ (run T ts (parameters_first k)) (λ x. header k parameters.Empty) (λ x j us. Took T n j) (λ qs. header k qs) (λ x j us. Took T n j)
+      (sim_eat T (parameters_first k) (header k parameters.Empty) n ts refl (λ t us q. ap (λ x. m.on_parameters t.at x k) (sign_is T ts t us sign.RightParen q is) ∙ ap (λ j. goes j (header k parameters.Empty)) (sym nn)))
+      (λ x j us g. (refl, g))
+  parameters_sim b k n ts nn sign.Void is = sim_then T (eat T n ts) _ (run T ts (parameters_first k)) (λ x. m.expect sign.RightParen n (header k parameters.Void)) (λ x j us. Took T n j) (λ qs. header k qs) (λ x j us. Took T n j)
+      (sim_eat T (parameters_first k) (m.expect sign.RightParen n (header k parameters.Void)) n ts refl (λ t us q. ap (λ x. m.on_parameters t.at x k) (sign_is T ts t us sign.Void q is) ∙ ap (λ j. goes j (m.expect sign.RightParen j (header k parameters.Void))) (sym nn)))
+      (λ x j us g. sim_then T (expect T sign.RightParen j us) _ (run T us (m.expect sign.RightParen n (header k parameters.Void))) (λ x. header k parameters.Void) (λ x l vs. Took T j l) (λ qs. header k qs) (λ x j us. Took T n j)
+        (expected_sim sign.RightParen n (header k parameters.Void) j us g.nesting refl refl)
+        (λ x l vs h. (refl, record { nesting = h.nesting ∙ g.nesting })))
+  parameters_sim b k n ts nn s is = list_sim b k [] (parameters_first k) n ts nn (record {
+      begins = λ t us q ty e. first_type t ty (sign_is T ts t us s q is) e ∙ ap (λ z. goes (home_nesting k.home) (parameter_typed k [] z ty)) (place_is T ts t us q) ∙ ap (λ j. goes j (parameter_typed k [] (place_at ts) ty)) (sym nn);
+      others = λ t us q e. first_other t (sign_is T ts t us s q is) e;
+      extends = λ t ty v e. ap (λ o. m.on_typed t.word o k [] (place_at ts) ty) e ∙ ap (λ j. goes j (parameter_typed k [] (place_at ts) v)) (sym nn);
+      open_first = refl;
+      open_last = λ ty. refl;
+    })
+    where
+      first_type : (t : Lexeme) (ty : TypeWords) → sign_of_word t.word ≡ s → type_of (sign_of_word t.word) ≡ Some ty → m.on_parameters t.at (sign_of_word t.word) k ≡ goes (home_nesting k.home) (parameter_typed k [] t.at ty)
+      first_type t ty w e = ap (λ x. m.on_parameters t.at x k) w ∙ ap (λ o. m.on_parameter t.at o k []) (ap type_of (sym w) ∙ e)
+
+      first_other : (t : Lexeme) → sign_of_word t.word ≡ s → type_of (sign_of_word t.word) ≡ None → m.on_parameters t.at (sign_of_word t.word) k ≡ None
+      first_other t w e = ap (λ x. m.on_parameters t.at x k) w ∙ ap (λ o. m.on_parameter t.at o k []) (ap type_of (sym w) ∙ e)
+
+  -- ---- headings
+
+  abbrev heading : At → Return → List ℕ → Home → Heading
+  heading at g f h = record { at = at; gives = g; name = f; home = h }
+
+  abbrev pub opened_by : Home → Opening → State
+  opened_by h (opening_.Objects x) = conclude h x
+  opened_by h (opening_.Function at g f qs) = header (heading at g f h) qs
+
+  heading_sim : (b : ℕ) (at : At) (g : Return) (p : At) (f : List ℕ) (h : Home) (n : ℕ) (ts : List Lexeme) → n ≡ home_nesting h → (g ≡ gives.Void ⊎ sign_at ts ≡ sign.LeftParen) → Sim T (d.heading T b at g f n ts) (run T ts (m.declared at g p f h)) (opened_by h) (λ x j us. Took T n j)
+  unfolding d.heading d.parameters
+  heading_sim b at g p f h n ts nn may = sim_then T (expect T sign.LeftParen n ts) _ (run T ts (m.declared at g p f h)) (λ x. parameters_first (heading at g f h)) (λ x j us. Took T n j) (opened_by h) (λ x j us. Took T n j)
+      (sim_expect T (m.declared at g p f h) (parameters_first (heading at g f h)) sign.LeftParen n ts refl
+        (λ t us q w. ap (λ x. m.on_declared at g p f h x) w ∙ ap (λ j. goes j (parameters_first (heading at g f h))) (sym nn))
+        (λ t us q w. other may (sign_of_word t.word) w (λ is. sign_is T ts t us sign.LeftParen q is)))
+      (λ x j us l. sim_then T (d.parameters_by T b (sign_at us) j us) _ (run T us (parameters_first (heading at g f h))) (λ qs. header (heading at g f h) qs) (λ qs i vs. Took T j i) (opened_by h) (λ x j us. Took T n j)
+        (parameters_sim b (heading at g f h) j us (l.nesting ∙ nn) (sign_at us) refl)
+        (λ qs i vs e. (refl, record { nesting = e.nesting ∙ l.nesting })))
+    where
+      is_void : (g : Return) (s : Sign) → g ≡ gives.Void → same s sign.LeftParen ≡ false → m.on_declared at g p f h s ≡ None
+      is_void g sign.LeftParen v w = absurd cc
+      is_void g s v w = subst (λ y. m.on_declared at y p f h s ≡ None) (sym v) refl
+
+      other : (g ≡ gives.Void ⊎ sign_at ts ≡ sign.LeftParen) → (s : Sign) → same s sign.LeftParen ≡ false → (sign_at ts ≡ sign.LeftParen → s ≡ sign.LeftParen) → m.on_declared at g p f h s ≡ None
+      other (inl v) s w to = is_void g s v w
+      other (inr e) s w to = absurd (apart (sym w ∙ ap (λ y. same y sign.LeftParen) (to e)))
+        where
+          apart : false ≡ true → ⊥
+          apart z = absurd cc

@@ -402,3 +402,93 @@ module _ (T : ℕ → Bool) where
         where
           apart : false ≡ true → ⊥
           apart z = absurd cc
+
+  -- ---- declarations
+
+  -- where a declaration may begin
+  pub record Starts (s0 : State) (h : Home) (n : ℕ) (ts : List Lexeme) : Type 0 where
+    pub by_type : (t : Lexeme) (us : List Lexeme) → ts ≡ t ∷ us → (ty : TypeWords) → type_of (sign_of_word t.word) ≡ Some ty → step s0 t ≡ Some (n, declaring (place_at ts) (gives.Value ty) h)
+    pub by_void : (t : Lexeme) (us : List Lexeme) → ts ≡ t ∷ us → sign_of_word t.word ≡ sign.Void → step s0 t ≡ Some (n, declaring (place_at ts) gives.Void h)
+    pub by_other : (t : Lexeme) (us : List Lexeme) → ts ≡ t ∷ us → type_of (sign_of_word t.word) ≡ None → same (sign_of_word t.word) sign.Void ≡ false → step s0 t ≡ None
+    pub ends : at_end s0 ≡ Err (Wrong 0)
+
+  declared_name_other : (p at : At) (g : Return) (w : Word) (h : Home) → ((f : List ℕ) → w ≡ a_name f → ⊥) → m.on_declared_name p at g w h ≡ None
+  declared_name_other p at g (a_name f) h k = absurd (k f refl)
+  declared_name_other p at g (a_number v e u) h k = refl
+  declared_name_other p at g (a_character v) h k = refl
+  declared_name_other p at g (a_sign s) h k = refl
+
+  -- the name behind a type or void
+  name_sim : (at : At) (g : Return) (h : Home) (n : ℕ) (ts : List Lexeme) → n ≡ home_nesting h → ((t : Lexeme) (us : List Lexeme) → ts ≡ t ∷ us → m.more_words g (sign_of_word t.word) ≡ None) → Sim T (name T n ts) (run T ts (declaring at g h)) (λ f. m.declared at g (place_at ts) f h) (λ f j us. Took T n j)
+  name_sim at g h n ts nn none = sim_name (declaring at g h) (λ p f. m.declared at g p f h) n ts refl
+      (λ t f us q w. ap (λ o. m.on_declaring t.at at g t.word o h) (none t us q) ∙ ap (λ y. m.on_declared_name t.at at g y h) w ∙ ap (λ j. goes j (m.declared at g t.at f h)) (sym nn))
+      (λ t us q k. ap (λ o. m.on_declaring t.at at g t.word o h) (none t us q) ∙ declared_name_other t.at at g t.word h k)
+
+  typed_opening_sim : (b : ℕ) (at : At) (w : TypeWords) (h : Home) (n : ℕ) (ts : List Lexeme) → n ≡ home_nesting h → joined w (sign_at ts) ≡ None → Sim T (d.typed_opening T b at w n ts) (run T ts (declaring at (gives.Value w) h)) (opened_by h) (λ x j us. Took T n j)
+  unfolding d.typed_opening
+  typed_opening_sim b at w h n ts nn none = sim_then T (name T n ts) _ (run T ts (declaring at (gives.Value w) h)) (λ f. m.declared at (gives.Value w) (place_at ts) f h) (λ f j us. Took T n j) (opened_by h) (λ x j us. Took T n j)
+      (name_sim at (gives.Value w) h n ts nn (λ t us q. ap (λ x. joined w x) (sign_is T ts t us (sign_at ts) q refl) ∙ none))
+      (λ f j us g. by_sign f j us g (same (sign_at us) sign.LeftParen) refl)
+    where
+      plain : (p : At) (f : List ℕ) (s : Sign) → same s sign.LeftParen ≡ false → m.on_declared at (gives.Value w) p f h s ≡ m.on_named (naming at w [] h p f) s
+      plain p f sign.LeftParen e = absurd cc
+      plain p f s e = refl
+
+      by_sign : (f : List ℕ) (j : ℕ) (us : List Lexeme) → Took T n j → (c : Bool) → same (sign_at us) sign.LeftParen ≡ c
+          → Sim T ((cond c (d.heading T b at (gives.Value w) f) (d.objects T b (place_at ts) f >>= (λ is. pure (opening_.Objects (declaration.Objects at w is))))) j us) (run T us (m.declared at (gives.Value w) (place_at ts) f h)) (opened_by h) (λ x i vs. Took T n i)
+      by_sign f j us g true is = sim_weaker T _ _ (opened_by h) _ (λ x i vs. Took T n i) (λ x i vs l. record { nesting = l.nesting ∙ g.nesting }) (heading_sim b at (gives.Value w) (place_at ts) f h j us (g.nesting ∙ nn) (inr (same_true the_type (search rules) (sign_at us) sign.LeftParen is)))
+      by_sign f j us g false is = sim_as T _ _ (run T us (item_named (naming at w [] h (place_at ts) f))) (opened_by h) (λ x i vs. Took T n i)
+          (same_run T (m.declared at (gives.Value w) (place_at ts) f h) (item_named (naming at w [] h (place_at ts) f)) us refl (λ t vs q. plain (place_at ts) f (sign_of_word t.word) (ap (λ y. same y sign.LeftParen) (sign_is T us t vs (sign_at us) q refl) ∙ is)))
+          (sim_then T (d.objects T b (place_at ts) f j us) _ (run T us (item_named (naming at w [] h (place_at ts) f))) (λ xs. conclude h (declaration.Objects at w xs)) (λ x i vs. Took T j i) (opened_by h) (λ x i vs. Took T n i)
+            (objects_sim b at w h (place_at ts) f j us (g.nesting ∙ nn))
+            (λ xs i vs l. (refl, record { nesting = l.nesting ∙ g.nesting })))
+
+  opening_sim : (b : ℕ) (s0 : State) (h : Home) (n : ℕ) (ts : List Lexeme) → n ≡ home_nesting h → Starts s0 h n ts → (s : Sign) → sign_at ts ≡ s → Sim T (d.opening_by T b (place_at ts) s n ts) (run T ts s0) (opened_by h) (λ x j us. Took T n j)
+  opening_sim b s0 h n ts nn y sign.Void is = sim_then T (eat T n ts) _ (run T ts s0) (λ x. declaring (place_at ts) gives.Void h) (λ x j us. Took T n j) (opened_by h) (λ x j us. Took T n j)
+      (sim_eat T s0 (declaring (place_at ts) gives.Void h) n ts y.ends (λ t us q. y.by_void t us q (sign_is T ts t us sign.Void q is)))
+      (λ x j us g. sim_then T (name T j us) _ (run T us (declaring (place_at ts) gives.Void h)) (λ f. m.declared (place_at ts) gives.Void (place_at us) f h) (λ f i vs. Took T j i) (opened_by h) (λ x j us. Took T n j)
+        (name_sim (place_at ts) gives.Void h j us (g.nesting ∙ nn) (λ t vs q. refl))
+        (λ f i vs l. sim_weaker T _ _ (opened_by h) _ (λ x k ws. Took T n k) (λ x k ws e. record { nesting = e.nesting ∙ l.nesting ∙ g.nesting }) (heading_sim b (place_at ts) gives.Void (place_at us) f h i vs (l.nesting ∙ g.nesting ∙ nn) (inl refl))))
+  opening_sim b s0 h n ts nn y s is = sim_then T (r.type_words T n ts) _ (run T ts s0) (λ ty. declaring (place_at ts) (gives.Value ty) h) (Typed T n) (opened_by h) (λ x j us. Took T n j)
+      (types_sim T s0 (λ ty. declaring (place_at ts) (gives.Value ty) h) n ts (record {
+        begins = y.by_type;
+        others = λ t us q e. y.by_other t us q e (ap (λ x. same x sign.Void) (sign_is T ts t us s q is));
+        extends = λ t ty v e. ap (λ o. m.on_declaring t.at (place_at ts) (gives.Value ty) t.word o h) e ∙ ap (λ j. goes j (declaring (place_at ts) (gives.Value v) h)) (sym nn);
+        open_first = y.ends;
+        open_last = λ ty. refl;
+      }))
+      (λ ty j us g. sim_weaker T _ _ (opened_by h) _ (λ x k ws. Took T n k) (λ x k ws e. record { nesting = e.nesting ∙ g.nesting }) (typed_opening_sim b (place_at ts) ty h j us (g.nesting ∙ nn) g.ended))
+
+  pub openings_sim : (b : ℕ) (s0 : State) (h : Home) (n : ℕ) (ts : List Lexeme) → n ≡ home_nesting h → Starts s0 h n ts → Sim T (d.opening T b n ts) (run T ts s0) (opened_by h) (λ x j us. Took T n j)
+  unfolding d.opening
+  openings_sim b s0 h n ts nn y = opening_sim b s0 h n ts nn y (sign_at ts) refl
+
+  header_sim : (k : Heading) (qs : Parameters) (n : ℕ) (ts : List Lexeme) → n ≡ home_nesting k.home → (m.on_body k qs k.home ≡ None ⊎ same (sign_at ts) sign.LeftBrace ≡ false) → Sim T (expect T sign.Semicolon n ts) (run T ts (header k qs)) (λ x. conclude k.home (declaration.Function k.at k.gives k.name qs)) (λ x j us. Took T n j)
+  header_sim k qs n ts nn may = sim_expect T (header k qs) (conclude k.home (declaration.Function k.at k.gives k.name qs)) sign.Semicolon n ts refl
+      (λ t us q w. ap (λ x. m.on_header k qs x) w ∙ ap (λ j. goes j (conclude k.home (declaration.Function k.at k.gives k.name qs))) (sym nn))
+      (λ t us q w. other may (sign_of_word t.word) w (sign_is T ts t us (sign_at ts) q refl))
+    where
+      other : (m.on_body k qs k.home ≡ None ⊎ same (sign_at ts) sign.LeftBrace ≡ false) → (s : Sign) → same s sign.Semicolon ≡ false → s ≡ sign_at ts → m.on_header k qs s ≡ None
+      other may sign.Semicolon w e = absurd cc
+      other (inl h) sign.LeftBrace w e = h
+      other (inr h) sign.LeftBrace w e = absurd (apart (sym (ap (λ x. same x sign.LeftBrace) e ∙ h)))
+        where
+          apart : false ≡ true → ⊥
+          apart z = absurd cc
+      other may s w e = refl
+
+  pub header_end : (k : Heading) (qs : Parameters) (n : ℕ) (ts : List Lexeme) → n ≡ home_nesting k.home → (m.on_body k qs k.home ≡ None ⊎ same (sign_at ts) sign.LeftBrace ≡ false) → Sim T (expect T sign.Semicolon n ts) (run T ts (header k qs)) (λ x. conclude k.home (declaration.Function k.at k.gives k.name qs)) (λ x j us. Took T n j)
+  header_end = header_sim
+
+  -- a declaration that stands in a function
+  pub declaration_sim : (b : ℕ) (s0 : State) (h : Home) (n : ℕ) (ts : List Lexeme) → n ≡ home_nesting h → ((k : Heading) (qs : Parameters) → m.on_body k qs h ≡ None) → Starts s0 h n ts → Sim T (d.declaration T b n ts) (run T ts s0) (λ x. conclude h x) (λ x j us. Took T n j)
+  unfolding d.declaration
+  declaration_sim b s0 h n ts nn inner_ y = sim_then T (d.opening T b n ts) (d.declared T) (run T ts s0) (opened_by h) (λ x j us. Took T n j) (λ x. conclude h x) (λ x j us. Took T n j)
+      (openings_sim b s0 h n ts nn y)
+      ends
+    where
+      ends : (o : Opening) (j : ℕ) (us : List Lexeme) → Took T n j → Sim T (d.declared T o j us) (run T us (opened_by h o)) (λ x. conclude h x) (λ x i vs. Took T n i)
+      ends (opening_.Objects x) j us g = (refl, g)
+      ends (opening_.Function at r2 f qs) j us g = sim_then T (expect T sign.Semicolon j us) _ (run T us (header (heading at r2 f h) qs)) (λ x. conclude h (declaration.Function at r2 f qs)) (λ x i vs. Took T j i) (λ x. conclude h x) (λ x i vs. Took T n i)
+          (header_sim (heading at r2 f h) qs j us (g.nesting ∙ nn) (inl (inner_ (heading at r2 f h) qs)))
+          (λ x i vs l. (refl, record { nesting = l.nesting ∙ g.nesting }))

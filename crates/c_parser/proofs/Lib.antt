@@ -15,3 +15,4 @@ mod Ends
 mod Whole
 mod Sim
 mod DeclSim
+mod StatSim

@@ -181,7 +181,7 @@ wanted_value us t h = same_cond (is_block us) _ _ (plain_item t.at t.word us (si
 
 -- ---- blocks
 
-abbrev after_block : List Under → State
+abbrev pub after_block : List Under → State
 after_block (m.in_block at ss ∷ us) = got (tree_.Block at ss) us
 after_block (m.in_switch at e ss ∷ us) = got (tree_.Switch at e ss) us
 after_block (m.in_body ps at r n qs ss ∷ us) = m.program (ps ++ external.Defined at r n qs ss ∷ [])

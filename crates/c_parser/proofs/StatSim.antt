@@ -104,10 +104,10 @@ module _ (T : ℕ → Bool) where
   -- ---- expressions of statements
 
   paren_sim : (b : ℕ) (u : Use) (s2 : Expr → State) (n : ℕ) (ts : List Lexeme) → n ≡ outer u → use_hole u ≡ 0 → ((e : Expr) → close_use u e sign.RightParen ≡ Some (behind (outer u) (about e), s2 e)) → ((e : Expr) (s : Sign) → same s sign.RightParen ≡ false → close_use u e s ≡ None)
-      → Sim T (st.condition T (r.read T b) n ts) (run T ts (m.expect sign.LeftParen n (operand [] u))) s2 (λ e k us. k ≡ behind (outer u) (about e))
+      → Sim T (st.condition T (r.read T b) n ts) (run T ts (m.expect sign.LeftParen (outer u) (operand [] u))) s2 (λ e k us. k ≡ behind (outer u) (about e))
   unfolding st.condition
-  paren_sim b u s2 n ts nn low does none = sim_then T (expect T sign.LeftParen n ts) _ (run T ts (m.expect sign.LeftParen n (operand [] u))) (λ x. operand [] u) (λ x k us. Took T n k) s2 (λ e k us. k ≡ behind (outer u) (about e))
-      (expected_sim T sign.LeftParen n (operand [] u) n ts refl refl refl)
+  paren_sim b u s2 n ts nn low does none = sim_then T (expect T sign.LeftParen n ts) _ (run T ts (m.expect sign.LeftParen (outer u) (operand [] u))) (λ x. operand [] u) (λ x k us. Took T n k) s2 (λ e k us. k ≡ behind (outer u) (about e))
+      (expected_sim T sign.LeftParen (outer u) (operand [] u) n ts nn refl refl)
       (λ x k us g. sim_then T (r.read T b r.expr k us) _ (run T us (operand [] u)) (λ e. have e [] u) (Got T 0 (place_at us) (outside T [] u)) s2 (λ e k us. k ≡ behind (outer u) (about e))
         ((read_reads T b).expr [] u k us low (g.nesting ∙ nn))
         (λ e j vs ge. sim_then T (expect T sign.RightParen j vs) _ (run T vs (have e [] u)) (λ x. s2 e) (λ x i ws. Took T j i) s2 (λ e k us. k ≡ behind (outer u) (about e))
@@ -193,3 +193,151 @@ module _ (T : ℕ → Bool) where
   case_none : (at : At) (us : List Under) (e : Expr) (s : Sign) → same s sign.Colon ≡ false → close_use (m.case_ at us) e s ≡ None
   case_none at us e sign.Colon w = absurd cc
   case_none at us e s w = refl
+
+  -- ---- declarations in functions
+
+  begins_one : (x : Sign) → q.begins_declaration x ≡ true → type_of x ≡ None → same x sign.Void ≡ false → ⊥
+  unfolding q.begins_declaration
+  begins_one sign.Void h t v = absurd cc
+  begins_one sign.Char h t v = absurd cc
+  begins_one sign.Int h t v = absurd cc
+  begins_one sign.Signed h t v = absurd cc
+  begins_one sign.Unsigned h t v = absurd cc
+  begins_one _ h t v = absurd cc
+
+  first_type : (p : At) (w : Word) (at : At) (us : List Under) (x : Sign) (ty : TypeWords) → type_of x ≡ Some ty → m.on_first p w x at us ≡ Some (suc (inside us), declaring p (gives.Value ty) (m.at_start at us))
+  first_type p w at us sign.Char ty is = ap (λ o. m.on_declaration p sign.Char o (m.at_start at us) (m.on_operand p w [] (m.start_ at us))) is
+  first_type p w at us sign.Int ty is = ap (λ o. m.on_declaration p sign.Int o (m.at_start at us) (m.on_operand p w [] (m.start_ at us))) is
+  first_type p w at us sign.Signed ty is = ap (λ o. m.on_declaration p sign.Signed o (m.at_start at us) (m.on_operand p w [] (m.start_ at us))) is
+  first_type p w at us sign.Unsigned ty is = ap (λ o. m.on_declaration p sign.Unsigned o (m.at_start at us) (m.on_operand p w [] (m.start_ at us))) is
+  first_type p w at us _ ty is = absurd cc
+
+  item_type : (p : At) (w : Word) (us : List Under) (x : Sign) (ty : TypeWords) → type_of x ≡ Some ty → m.on_item p w x us ≡ Some (inside us, declaring p (gives.Value ty) (m.at_block us))
+  item_type p w us sign.Char ty is = ap (λ o. m.on_declaration p sign.Char o (m.at_block us) (m.on_statement p w sign.Char us)) is
+  item_type p w us sign.Int ty is = ap (λ o. m.on_declaration p sign.Int o (m.at_block us) (m.on_statement p w sign.Int us)) is
+  item_type p w us sign.Signed ty is = ap (λ o. m.on_declaration p sign.Signed o (m.at_block us) (m.on_statement p w sign.Signed us)) is
+  item_type p w us sign.Unsigned ty is = ap (λ o. m.on_declaration p sign.Unsigned o (m.at_block us) (m.on_statement p w sign.Unsigned us)) is
+  item_type p w us _ ty is = absurd cc
+
+  start_starts : (at : At) (us : List Under) (n : ℕ) (ts : List Lexeme) → n ≡ suc (inside us) → q.begins_declaration (sign_at ts) ≡ true → Starts T (m.for_first at us) (m.at_start at us) n ts
+  start_starts at us n ts nn bd = record {
+    by_type = λ t r2 l ty e. first_type t.at t.word at us (sign_of_word t.word) ty e ∙ ap (λ z. goes (suc (inside us)) (declaring z (gives.Value ty) (m.at_start at us))) (place_is T ts t r2 l) ∙ ap (λ j. goes j (declaring (place_at ts) (gives.Value ty) (m.at_start at us))) (sym nn);
+    by_void = λ t r2 l w. ap (λ x. m.on_first t.at t.word x at us) w ∙ ap (λ z. goes (suc (inside us)) (declaring z gives.Void (m.at_start at us))) (place_is T ts t r2 l) ∙ ap (λ j. goes j (declaring (place_at ts) gives.Void (m.at_start at us))) (sym nn);
+    by_other = λ t r2 l e v. absurd (begins_one (sign_of_word t.word) (ap q.begins_declaration (sign_is T ts t r2 (sign_at ts) l refl) ∙ bd) e v);
+    ends = refl;
+  }
+
+  item_starts : (c : Open_block) (ss : List Statement) (n : ℕ) (ts : List Lexeme) → n ≡ nest c → q.begins_declaration (sign_at ts) ≡ true → Starts T (want (unders c ss)) (m.at_block (unders c ss)) n ts
+  item_starts c ss n ts nn bd = record {
+    by_type = λ t r2 l ty e. item_step c t ∙ item_type t.at t.word (unders c ss) (sign_of_word t.word) ty e ∙ ap (λ z. goes (inside (unders c ss)) (declaring z (gives.Value ty) (m.at_block (unders c ss)))) (place_is T ts t r2 l) ∙ ap (λ j. goes j (declaring (place_at ts) (gives.Value ty) (m.at_block (unders c ss)))) (nest_is c ∙ sym nn);
+    by_void = λ t r2 l w. item_step c t ∙ ap (λ x. m.on_item t.at t.word x (unders c ss)) w ∙ ap (λ z. goes (inside (unders c ss)) (declaring z gives.Void (m.at_block (unders c ss)))) (place_is T ts t r2 l) ∙ ap (λ j. goes j (declaring (place_at ts) gives.Void (m.at_block (unders c ss)))) (nest_is c ∙ sym nn);
+    by_other = λ t r2 l e v. absurd (begins_one (sign_of_word t.word) (ap q.begins_declaration (sign_is T ts t r2 (sign_at ts) l refl) ∙ bd) e v);
+    ends = refl;
+  }
+    where
+      item_step : (c : Open_block) (t : Lexeme) → step (want (unders c ss)) t ≡ m.on_item t.at t.word (sign_of_word t.word) (unders c ss)
+      item_step (of_block at us) t = refl
+      item_step (of_switch at e us) t = refl
+      item_step (of_body ps at g f qs) t = refl
+
+      nest_is : (c : Open_block) → inside (unders c ss) ≡ nest c
+      nest_is (of_block at us) = refl
+      nest_is (of_switch at e us) = refl
+      nest_is (of_body ps at g f qs) = refl
+
+  plain_first : (t : Lexeme) (at : At) (us : List Under) (x : Sign) → q.begins_declaration x ≡ false → same x sign.Semicolon ≡ false → m.on_first t.at t.word x at us ≡ m.on_operand t.at t.word [] (m.start_ at us)
+  unfolding q.begins_declaration
+  plain_first t at us sign.Semicolon h w = absurd cc
+  plain_first t at us sign.Void h w = absurd cc
+  plain_first t at us sign.Char h w = absurd cc
+  plain_first t at us sign.Int h w = absurd cc
+  plain_first t at us sign.Signed h w = absurd cc
+  plain_first t at us sign.Unsigned h w = absurd cc
+  plain_first t at us x h w = refl
+
+  started_sim : (b : ℕ) (at : At) (us : List Under) (n : ℕ) (ts : List Lexeme) → n ≡ suc (inside us) → same (sign_at ts) sign.Semicolon ≡ false → Sim T (st.started T b n ts) (run T ts (m.for_first at us)) (λ x. for_test at x us) (λ x k vs. k ≡ start_behind (suc (inside us)) x)
+  unfolding st.started
+  started_sim b at us n ts nn semi = by_decl (q.begins_declaration (sign_at ts)) refl
+    where
+      by_decl : (c : Bool) → q.begins_declaration (sign_at ts) ≡ c → Sim T ((cond c (d.declaration T b >>= (λ x. pure (start.Declared x))) (r.read T b r.expr >>= (λ e. expect T sign.Semicolon >>= (λ y. pure (start.Value e))))) n ts) (run T ts (m.for_first at us)) (λ x. for_test at x us) (λ x k vs. k ≡ start_behind (suc (inside us)) x)
+      by_decl true is = sim_then T (d.declaration T b n ts) _ (run T ts (m.for_first at us)) (λ x. conclude (m.at_start at us) x) (λ x k vs. Took T n k) (λ x. for_test at x us) (λ x k vs. k ≡ start_behind (suc (inside us)) x)
+          (declaration_sim T b (m.for_first at us) (m.at_start at us) n ts nn (λ k qs. refl) (start_starts at us n ts nn is))
+          (λ x k vs g. (refl, g.nesting ∙ nn))
+      by_decl false is = sim_as T _ (run T ts (m.for_first at us)) (run T ts (operand [] (m.start_ at us))) (λ x. for_test at x us) (λ x k vs. k ≡ start_behind (suc (inside us)) x)
+          (same_run T (m.for_first at us) (operand [] (m.start_ at us)) ts refl (λ t r2 l. plain_first t at us (sign_of_word t.word) (ap q.begins_declaration (sign_is T ts t r2 (sign_at ts) l refl) ∙ is) (ap (λ y. same y sign.Semicolon) (sign_is T ts t r2 (sign_at ts) l refl) ∙ semi)))
+          (sim_then T (r.read T b r.expr n ts) _ (run T ts (operand [] (m.start_ at us))) (λ e. have e [] (m.start_ at us)) (Got T 0 (place_at ts) (outside T [] (m.start_ at us))) (λ x. for_test at x us) (λ x k vs. k ≡ start_behind (suc (inside us)) x)
+            ((read_reads T b).expr [] (m.start_ at us) n ts refl nn)
+            (λ e j vs ge. sim_then T (expect T sign.Semicolon j vs) _ (run T vs (have e [] (m.start_ at us))) (λ x. for_test at (start.Value e) us) (λ x i ws. Took T j i) (λ x. for_test at x us) (λ x k vs. k ≡ start_behind (suc (inside us)) x)
+              (sim_expect T (have e [] (m.start_ at us)) (for_test at (start.Value e) us) sign.Semicolon j vs refl
+                (λ t ws l w. use_step T e (m.start_ at us) vs ge.stop t ws l ∙ ap (λ y. close_use (m.start_ at us) e y) w ∙ ap (λ i. goes i (for_test at (start.Value e) us)) (sym ge.nesting))
+                (λ t ws l w. use_step T e (m.start_ at us) vs ge.stop t ws l ∙ start_none at us e (sign_of_word t.word) w))
+              (λ x i ws h. (refl, h.nesting ∙ ge.nesting))))
+
+  start_sim : (b : ℕ) (at : At) (us : List Under) (n : ℕ) (ts : List Lexeme) → n ≡ suc (inside us) → (x : Sign) → sign_at ts ≡ x → Sim T (st.start_by T b x n ts) (run T ts (m.for_first at us)) (λ x. for_test at x us) (λ x k vs. k ≡ start_behind (suc (inside us)) x)
+  start_sim b at us n ts nn sign.Semicolon is = sim_then T (eat T n ts) _ (run T ts (m.for_first at us)) (λ y. for_test at start.Absent us) (λ y k vs. Took T n k) (λ x. for_test at x us) (λ x k vs. k ≡ start_behind (suc (inside us)) x)
+      (sim_eat T (m.for_first at us) (for_test at start.Absent us) n ts refl (λ t r2 l. ap (λ x. m.on_first t.at t.word x at us) (sign_is T ts t r2 sign.Semicolon l is) ∙ ap (λ j. goes j (for_test at start.Absent us)) (sym nn)))
+      (λ y k vs g. (refl, g.nesting ∙ nn))
+  start_sim b at us n ts nn x is = started_sim b at us n ts nn (ap (λ y. same y sign.Semicolon) is)
+
+  module _ (b : ℕ) (S : st.Statements) (S_reads : Stat_reads S) where
+    -- the first word of a statement
+    first_step : (us : List Under) (n : ℕ) (ts : List Lexeme) (x : Sign) (s2 : At → State) → n ≡ suc (inside us) → Plain us ts → sign_at ts ≡ x → ((p : At) (w : Word) → m.on_statement p w x us ≡ goes (suc (inside us)) (s2 p)) → (t : Lexeme) (rest : List Lexeme) → ts ≡ t ∷ rest → step (want us) t ≡ Some (n, s2 (place_at ts))
+    first_step us n ts x s2 nn pl is does t rest l = pl t rest l ∙ ap (λ y. m.on_statement t.at t.word y us) (sign_is T ts t rest x l is) ∙ does t.at t.word ∙ ap (λ z. goes (suc (inside us)) (s2 z)) (place_is T ts t rest l) ∙ ap (λ j. goes j (s2 (place_at ts))) (sym nn)
+
+    abbrev Stat : (us : List Under) (n : ℕ) (ts : List Lexeme) → Parser Statement → Type 0
+    Stat us n ts p = Sim T (p n ts) (run T ts (want us)) (λ x. got x us) Nothing
+
+    same_got : (x y : Statement) (us vs : List Under) (ts : List Lexeme) → ((t : Lexeme) → step (got x us) t ≡ step (got y vs) t) → run T ts (got x us) ≡ run T ts (got y vs)
+    same_got x y us vs ts h = same_run T (got x us) (got y vs) ts refl (λ t rest l. h t)
+
+    while_sim : (us : List Under) (n : ℕ) (ts : List Lexeme) → n ≡ suc (inside us) → Plain us ts → sign_at ts ≡ sign.While → Stat us n ts (st.while_statement T b S (place_at ts))
+    unfolding st.while_statement
+    while_sim us n ts nn pl is = let at = place_at ts in sim_then T (eat T n ts) _ (run T ts (want us)) (λ x. m.expect sign.LeftParen (suc (inside us)) (operand [] (m.while_ at us))) (λ x k vs. Took T n k) (λ x. got x us) Nothing
+        (sim_eat T (want us) (m.expect sign.LeftParen (suc (inside us)) (operand [] (m.while_ at us))) n ts refl (first_step us n ts sign.While (λ z. m.expect sign.LeftParen (suc (inside us)) (operand [] (m.while_ z us))) nn pl is (λ p w. refl)))
+        (λ x k vs g. sim_then T (st.condition T (r.read T b) k vs) _ (run T vs (m.expect sign.LeftParen (suc (inside us)) (operand [] (m.while_ at us)))) (λ e. want (m.in_while at e ∷ us)) (λ e j ws. j ≡ behind (suc (inside us)) (about e)) (λ x. got x us) Nothing
+          (paren_sim b (m.while_ at us) (λ e. want (m.in_while at e ∷ us)) k vs (g.nesting ∙ nn) refl (λ e. refl) (while_none at us))
+          (λ e j ws ge. sim_then T (S.one j ws) _ (run T ws (want (m.in_while at e ∷ us))) (λ a. got a (m.in_while at e ∷ us)) (λ a i os. Took T j i) (λ x. got x us) Nothing
+            (S_reads.one (m.in_while at e ∷ us) j ws ge (λ t rest l. refl))
+            (λ a i os h. (same_got a (tree_.While at e a) (m.in_while at e ∷ us) us os (λ t. refl), tt))))
+
+    else_sim : (at : At) (e : Expr) (a : Statement) (us : List Under) (n : ℕ) (ts : List Lexeme) → n ≡ inside (m.in_if at e ∷ us) → (x : Sign) → sign_at ts ≡ x → Sim T (st.else_by T S x n ts) (run T ts (got a (m.in_if at e ∷ us))) (λ y. got (tree_.If at e a y) us) Nothing
+    else_sim at e a us n ts nn sign.Else is = sim_then T (eat T n ts) _ (run T ts (got a (m.in_if at e ∷ us))) (λ x. want (m.in_else at e a ∷ us)) (λ x k vs. Took T n k) (λ y. got (tree_.If at e a y) us) Nothing
+        (sim_eat T (got a (m.in_if at e ∷ us)) (want (m.in_else at e a ∷ us)) n ts refl (λ t rest l. ap (λ y. m.on y sign.Else (goes (inside (m.in_if at e ∷ us)) (want (m.in_else at e a ∷ us))) (m.settle t.at t.word (sign_of_word t.word) (tree_.If at e a None) us)) (sign_is T ts t rest sign.Else l is) ∙ ap (λ k. goes k (want (m.in_else at e a ∷ us))) (sym nn)))
+        (λ x k vs g. sim_then T (S.one k vs) _ (run T vs (want (m.in_else at e a ∷ us))) (λ y. got y (m.in_else at e a ∷ us)) (λ y i os. Took T k i) (λ y. got (tree_.If at e a y) us) Nothing
+          (S_reads.one (m.in_else at e a ∷ us) k vs (g.nesting ∙ nn) (λ t rest l. refl))
+          (λ y i os h. (same_got y (tree_.If at e a (Some y)) (m.in_else at e a ∷ us) us os (λ t. refl), tt)))
+    else_sim at e a us n ts nn x is = (same_run T (got a (m.in_if at e ∷ us)) (got (tree_.If at e a None) us) ts refl (λ t rest l. ap (λ c. cond c (goes (inside (m.in_if at e ∷ us)) (want (m.in_else at e a ∷ us))) (m.settle t.at t.word (sign_of_word t.word) (tree_.If at e a None) us)) (ap (λ y. same y sign.Else) (sign_is T ts t rest x l is))), tt)
+
+    if_sim : (us : List Under) (n : ℕ) (ts : List Lexeme) → n ≡ suc (inside us) → Plain us ts → sign_at ts ≡ sign.If → Stat us n ts (st.if_statement T b S (place_at ts))
+    unfolding st.if_statement st.else_branch
+    if_sim us n ts nn pl is = let at = place_at ts in sim_then T (eat T n ts) _ (run T ts (want us)) (λ x. m.expect sign.LeftParen (suc (inside us)) (operand [] (m.if_ at us))) (λ x k vs. Took T n k) (λ x. got x us) Nothing
+        (sim_eat T (want us) (m.expect sign.LeftParen (suc (inside us)) (operand [] (m.if_ at us))) n ts refl (first_step us n ts sign.If (λ z. m.expect sign.LeftParen (suc (inside us)) (operand [] (m.if_ z us))) nn pl is (λ p w. refl)))
+        (λ x k vs g. sim_then T (st.condition T (r.read T b) k vs) _ (run T vs (m.expect sign.LeftParen (suc (inside us)) (operand [] (m.if_ at us)))) (λ e. want (m.in_if at e ∷ us)) (λ e j ws. j ≡ behind (suc (inside us)) (about e)) (λ x. got x us) Nothing
+          (paren_sim b (m.if_ at us) (λ e. want (m.in_if at e ∷ us)) k vs (g.nesting ∙ nn) refl (λ e. refl) (if_none at us))
+          (λ e j ws ge. sim_then T (S.one j ws) _ (run T ws (want (m.in_if at e ∷ us))) (λ a. got a (m.in_if at e ∷ us)) (λ a i os. Took T j i) (λ x. got x us) Nothing
+            (S_reads.one (m.in_if at e ∷ us) j ws ge (λ t rest l. refl))
+            (λ a i os h. sim_then T (st.else_by T S (sign_at os) i os) _ (run T os (got a (m.in_if at e ∷ us))) (λ y. got (tree_.If at e a y) us) Nothing (λ x. got x us) Nothing
+              (else_sim at e a us i os (h.nesting ∙ ge) (sign_at os) refl)
+              (λ y l zs f. (refl, tt)))))
+
+    do_end_sim : (at : At) (a : Statement) (us : List Under) (n : ℕ) (ts : List Lexeme) → n ≡ suc (inside us) → Sim T (st.do_end T (r.read T b) n ts) (run T ts (got a (m.in_do at ∷ us))) (λ e. got (tree_.DoWhile at a e) us) Nothing
+    unfolding st.do_end
+    do_end_sim at a us n ts nn = sim_then T (expect T sign.While n ts) _ (run T ts (got a (m.in_do at ∷ us))) (λ x. m.expect sign.LeftParen (suc (inside us)) (operand [] (m.do_ at a us))) (λ x k vs. Took T n k) (λ e. got (tree_.DoWhile at a e) us) Nothing
+        (sim_expect T (got a (m.in_do at ∷ us)) (m.expect sign.LeftParen (suc (inside us)) (operand [] (m.do_ at a us))) sign.While n ts refl
+          (λ t rest l w. ap (λ y. m.on y sign.While (goes (suc (inside us)) (m.expect sign.LeftParen (suc (inside us)) (operand [] (m.do_ at a us)))) None) w ∙ ap (λ k. goes k (m.expect sign.LeftParen (suc (inside us)) (operand [] (m.do_ at a us)))) (sym nn))
+          (λ t rest l w. ap (λ c. cond c (goes (suc (inside us)) (m.expect sign.LeftParen (suc (inside us)) (operand [] (m.do_ at a us)))) None) w))
+        (λ x k vs g. sim_then T (st.condition T (r.read T b) k vs) _ (run T vs (m.expect sign.LeftParen (suc (inside us)) (operand [] (m.do_ at a us)))) (λ e. m.expect sign.Semicolon (behind (suc (inside us)) (about e)) (got (tree_.DoWhile at a e) us)) (λ e j ws. j ≡ behind (suc (inside us)) (about e)) (λ e. got (tree_.DoWhile at a e) us) Nothing
+          (paren_sim b (m.do_ at a us) (λ e. m.expect sign.Semicolon (behind (suc (inside us)) (about e)) (got (tree_.DoWhile at a e) us)) k vs (g.nesting ∙ nn) refl (λ e. refl) (do_none at a us))
+          (λ e j ws ge. sim_then T (expect T sign.Semicolon j ws) _ (run T ws (m.expect sign.Semicolon (behind (suc (inside us)) (about e)) (got (tree_.DoWhile at a e) us))) (λ y. got (tree_.DoWhile at a e) us) (λ y i os. Took T j i) (λ e. got (tree_.DoWhile at a e) us) Nothing
+            (expected_sim T sign.Semicolon (behind (suc (inside us)) (about e)) (got (tree_.DoWhile at a e) us) j ws ge refl refl)
+            (λ y i os h. (refl, tt))))
+
+    do_sim : (us : List Under) (n : ℕ) (ts : List Lexeme) → n ≡ suc (inside us) → Plain us ts → sign_at ts ≡ sign.Do → Stat us n ts (st.do_statement T b S (place_at ts))
+    unfolding st.do_statement
+    do_sim us n ts nn pl is = let at = place_at ts in sim_then T (eat T n ts) _ (run T ts (want us)) (λ x. want (m.in_do at ∷ us)) (λ x k vs. Took T n k) (λ x. got x us) Nothing
+        (sim_eat T (want us) (want (m.in_do at ∷ us)) n ts refl (first_step us n ts sign.Do (λ z. want (m.in_do z ∷ us)) nn pl is (λ p w. refl)))
+        (λ x k vs g. sim_then T (S.one k vs) _ (run T vs (want (m.in_do at ∷ us))) (λ a. got a (m.in_do at ∷ us)) (λ a i os. Took T k i) (λ x. got x us) Nothing
+          (S_reads.one (m.in_do at ∷ us) k vs (g.nesting ∙ nn) (λ t rest l. refl))
+          (λ a i os h. sim_then T (st.do_end T (r.read T b) i os) _ (run T os (got a (m.in_do at ∷ us))) (λ e. got (tree_.DoWhile at a e) us) Nothing (λ x. got x us) Nothing
+            (do_end_sim at a us i os (h.nesting ∙ g.nesting ∙ nn))
+            (λ e l zs f. (refl, tt))))

@@ -341,3 +341,134 @@ module _ (T : ℕ → Bool) where
           (λ a i os h. sim_then T (st.do_end T (r.read T b) i os) _ (run T os (got a (m.in_do at ∷ us))) (λ e. got (tree_.DoWhile at a e) us) Nothing (λ x. got x us) Nothing
             (do_end_sim at a us i os (h.nesting ∙ g.nesting ∙ nn))
             (λ e l zs f. (refl, tt))))
+
+    header_sim : (at : At) (us : List Under) (n : ℕ) (ts : List Lexeme) → n ≡ suc (inside us) → Plain us ts → sign_at ts ≡ sign.For → at ≡ place_at ts → Sim T (st.for_header T b n ts) (run T ts (want us)) (λ x. want (m.in_for at x.0 x.1 x.2 ∷ us)) (λ x k vs. k ≡ inside (m.in_for at x.0 x.1 x.2 ∷ us))
+    unfolding st.for_header st.start
+    header_sim at us n ts nn pl is here = sim_then T (eat T n ts) _ (run T ts (want us)) (λ x. m.expect sign.LeftParen (suc (inside us)) (m.for_first at us)) (λ x k vs. Took T n k) (λ x. want (m.in_for at x.0 x.1 x.2 ∷ us)) (λ x k vs. k ≡ inside (m.in_for at x.0 x.1 x.2 ∷ us))
+        (sim_eat T (want us) (m.expect sign.LeftParen (suc (inside us)) (m.for_first at us)) n ts refl (λ t rest l. first_step us n ts sign.For (λ z. m.expect sign.LeftParen (suc (inside us)) (m.for_first z us)) nn pl is (λ p w. refl) t rest l ∙ ap (λ z. goes n (m.expect sign.LeftParen (suc (inside us)) (m.for_first z us))) (sym here)))
+        (λ x k vs g. sim_then T (expect T sign.LeftParen k vs) _ (run T vs (m.expect sign.LeftParen (suc (inside us)) (m.for_first at us))) (λ y. m.for_first at us) (λ y j ws. Took T k j) (λ x. want (m.in_for at x.0 x.1 x.2 ∷ us)) (λ x k vs. k ≡ inside (m.in_for at x.0 x.1 x.2 ∷ us))
+          (expected_sim T sign.LeftParen (suc (inside us)) (m.for_first at us) k vs (g.nesting ∙ nn) refl refl)
+          (λ y j ws h. sim_then T (st.start_by T b (sign_at ws) j ws) _ (run T ws (m.for_first at us)) (λ x. for_test at x us) (λ x k vs. k ≡ start_behind (suc (inside us)) x) (λ x. want (m.in_for at x.0 x.1 x.2 ∷ us)) (λ x k vs. k ≡ inside (m.in_for at x.0 x.1 x.2 ∷ us))
+            (start_sim b at us j ws (h.nesting ∙ g.nesting ∙ nn) (sign_at ws) refl)
+            (λ a i os ga. sim_then T (st.optional T (r.read T b) sign.Semicolon i os) _ (run T os (for_test at a us)) (λ t. for_next at a t us) (Maybe (m.test_ at a us) (place_at os)) (λ x. want (m.in_for at x.0 x.1 x.2 ∷ us)) (λ x k vs. k ≡ inside (m.in_for at x.0 x.1 x.2 ∷ us))
+              (optional_sim b (m.test_ at a us) sign.Semicolon (for_test at a us) (λ t. for_next at a t us) i os ga refl refl
+                (λ t rest l w. either_yes sign.Semicolon (start_behind (suc (inside us)) a) (for_next at a None us) (operand [] (m.test_ at a us)) os refl refl t rest l w ∙ ap (λ c. goes c (for_next at a None us)) (sym ga))
+                (λ w. either_no sign.Semicolon (start_behind (suc (inside us)) a) (for_next at a None us) (operand [] (m.test_ at a us)) os refl w)
+                (λ e. refl) (test_none at a us))
+              (λ t l zs gt. sim_then T (st.optional T (r.read T b) sign.RightParen l zs) _ (run T zs (for_next at a t us)) (λ y. want (m.in_for at a t y ∷ us)) (Maybe (m.next_ at a t us) (place_at zs)) (λ x. want (m.in_for at x.0 x.1 x.2 ∷ us)) (λ x k vs. k ≡ inside (m.in_for at x.0 x.1 x.2 ∷ us))
+                (optional_sim b (m.next_ at a t us) sign.RightParen (for_next at a t us) (λ y. want (m.in_for at a t y ∷ us)) l zs gt.nesting refl refl
+                  (λ v rest l2 w. either_yes sign.RightParen (maybe_behind (start_behind (suc (inside us)) a) t) (want (m.in_for at a t None ∷ us)) (operand [] (m.next_ at a t us)) zs refl refl v rest l2 w ∙ ap (λ c. goes c (want (m.in_for at a t None ∷ us))) (sym gt.nesting))
+                  (λ w. either_no sign.RightParen (maybe_behind (start_behind (suc (inside us)) a) t) (want (m.in_for at a t None ∷ us)) (operand [] (m.next_ at a t us)) zs refl w)
+                  (λ e. refl) (next_none at a t us))
+                (λ y f qs gy. (refl, gy.nesting))))))
+
+    for_sim : (us : List Under) (n : ℕ) (ts : List Lexeme) → n ≡ suc (inside us) → Plain us ts → sign_at ts ≡ sign.For → Stat us n ts (st.for_statement T b S (place_at ts))
+    unfolding st.for_statement
+    for_sim us n ts nn pl is = let at = place_at ts in sim_then T (st.for_header T b n ts) _ (run T ts (want us)) (λ x. want (m.in_for at x.0 x.1 x.2 ∷ us)) (λ x k vs. k ≡ inside (m.in_for at x.0 x.1 x.2 ∷ us)) (λ x. got x us) Nothing
+        (header_sim at us n ts nn pl is refl)
+        (λ x k vs g. sim_then T (S.one k vs) _ (run T vs (want (m.in_for at x.0 x.1 x.2 ∷ us))) (λ a. got a (m.in_for at x.0 x.1 x.2 ∷ us)) (λ a i os. Took T k i) (λ x. got x us) Nothing
+          (S_reads.one (m.in_for at x.0 x.1 x.2 ∷ us) k vs g (λ t rest l. refl))
+          (λ a i os h. (same_got a (tree_.For at x.0 x.1 x.2 a) (m.in_for at x.0 x.1 x.2 ∷ us) us os (λ t. refl), tt)))
+
+    -- a block from its brace on
+    block_sim : (c : Open_block) (s0 : State) (n : ℕ) (ts : List Lexeme) → suc n ≡ nest c → at_end s0 ≡ Err (Wrong 0)
+        → ((t : Lexeme) (rest : List Lexeme) → ts ≡ t ∷ rest → sign_of_word t.word ≡ sign.LeftBrace → step s0 t ≡ Some (suc n, want (unders c [])))
+        → ((t : Lexeme) (rest : List Lexeme) → ts ≡ t ∷ rest → same (sign_of_word t.word) sign.LeftBrace ≡ false → step s0 t ≡ None)
+        → Sim T (st.block T S n ts) (run T ts s0) (closed c) (λ x k vs. Took T n k)
+    unfolding st.block
+    block_sim c s0 n ts nn ends yes_ no_ = sim_then T (and_then (expect T sign.LeftBrace (suc n) ts) (λ x. S.rest [])) _ (run T ts s0) (closed c) Nothing (closed c) (λ x k vs. Took T n k)
+        (sim_then T (expect T sign.LeftBrace (suc n) ts) (λ x. S.rest []) (run T ts s0) (λ x. want (unders c [])) (λ x k vs. Took T (suc n) k) (closed c) Nothing
+          (sim_expect T s0 (want (unders c [])) sign.LeftBrace (suc n) ts ends yes_ no_)
+          (λ x k vs g. S_reads.rest c [] k vs (g.nesting ∙ nn)))
+        (λ x k vs g. (refl, record { nesting = refl }))
+
+    block_statement_sim : (us : List Under) (n : ℕ) (ts : List Lexeme) → n ≡ suc (inside us) → Plain us ts → sign_at ts ≡ sign.LeftBrace → Stat us n ts (st.block_statement T b S (place_at ts))
+    unfolding st.block_statement
+    block_statement_sim us n ts nn pl is = let at = place_at ts in sim_then T (st.block T S n ts) _ (run T ts (want us)) (λ ss. got (tree_.Block at ss) us) (λ x k vs. Took T n k) (λ x. got x us) Nothing
+        (block_sim (of_block at us) (want us) n ts (ap suc nn) refl
+          (λ t rest l w. pl t rest l ∙ ap (λ y. m.on_statement t.at t.word y us) w ∙ ap (λ z. goes (suc (suc (inside us))) (want (m.in_block z [] ∷ us))) (place_is T ts t rest l) ∙ ap (λ j. goes (suc j) (want (m.in_block at [] ∷ us))) (sym nn))
+          (λ t rest l w. absurd (apart (sym w ∙ ap (λ y. same y sign.LeftBrace) (sign_is T ts t rest sign.LeftBrace l is)))))
+        (λ ss k vs g. (refl, tt))
+      where
+        apart : false ≡ true → ⊥
+        apart z = absurd cc
+
+    switch_sim : (us : List Under) (n : ℕ) (ts : List Lexeme) → n ≡ suc (inside us) → Plain us ts → sign_at ts ≡ sign.Switch → Stat us n ts (st.switch_statement T b S (place_at ts))
+    unfolding st.switch_statement
+    switch_sim us n ts nn pl is = let at = place_at ts in sim_then T (eat T n ts) _ (run T ts (want us)) (λ x. m.expect sign.LeftParen (suc (inside us)) (operand [] (m.switch_ at us))) (λ x k vs. Took T n k) (λ x. got x us) Nothing
+        (sim_eat T (want us) (m.expect sign.LeftParen (suc (inside us)) (operand [] (m.switch_ at us))) n ts refl (first_step us n ts sign.Switch (λ z. m.expect sign.LeftParen (suc (inside us)) (operand [] (m.switch_ z us))) nn pl is (λ p w. refl)))
+        (λ x k vs g. sim_then T (st.condition T (r.read T b) k vs) _ (run T vs (m.expect sign.LeftParen (suc (inside us)) (operand [] (m.switch_ at us)))) (λ e. m.expect sign.LeftBrace (suc (behind (suc (inside us)) (about e))) (want (m.in_switch at e [] ∷ us))) (λ e j ws. j ≡ behind (suc (inside us)) (about e)) (λ x. got x us) Nothing
+          (paren_sim b (m.switch_ at us) (λ e. m.expect sign.LeftBrace (suc (behind (suc (inside us)) (about e))) (want (m.in_switch at e [] ∷ us))) k vs (g.nesting ∙ nn) refl (λ e. refl) (switch_none at us))
+          (λ e j ws ge. sim_then T (st.block T S j ws) _ (run T ws (m.expect sign.LeftBrace (suc (behind (suc (inside us)) (about e))) (want (m.in_switch at e [] ∷ us)))) (λ ss. got (tree_.Switch at e ss) us) (λ ss i os. Took T j i) (λ x. got x us) Nothing
+            (block_sim (of_switch at e us) (m.expect sign.LeftBrace (suc (behind (suc (inside us)) (about e))) (want (m.in_switch at e [] ∷ us))) j ws (ap suc ge) refl
+              (λ t rest l w. ap (λ c. cond c (goes (suc (behind (suc (inside us)) (about e))) (want (m.in_switch at e [] ∷ us))) None) (is_a_sign t.word sign.LeftBrace w refl refl) ∙ ap (λ i. goes (suc i) (want (m.in_switch at e [] ∷ us))) (sym ge))
+              (λ t rest l w. ap (λ c. cond c (goes (suc (behind (suc (inside us)) (about e))) (want (m.in_switch at e [] ∷ us))) None) (is_no_sign t.word sign.LeftBrace w)))
+            (λ ss i os h. (refl, tt))))
+
+    label_sim : (at : At) (us : List Under) (n : ℕ) (ts : List Lexeme) → n ≡ suc (inside us) → Plain us ts → sign_at ts ≡ sign.Case → at ≡ place_at ts → Sim T (st.case_label T (r.read T b) n ts) (run T ts (want us)) (λ e. want (m.in_case at e ∷ us)) (λ e k vs. Took T n k)
+    unfolding st.case_label
+    label_sim at us n ts nn pl is here = sim_then T (eat T n ts) _ (run T ts (want us)) (λ x. operand [] (m.case_ at us)) (λ x k vs. Took T n k) (λ e. want (m.in_case at e ∷ us)) (λ e k vs. Took T n k)
+        (sim_eat T (want us) (operand [] (m.case_ at us)) n ts refl (λ t rest l. first_step us n ts sign.Case (λ z. operand [] (m.case_ z us)) nn pl is (λ p w. refl) t rest l ∙ ap (λ z. goes n (operand [] (m.case_ z us))) (sym here)))
+        (λ x k vs g. sim_then T (and_then (r.read T b r.conditional (suc k) vs) (λ x i os. Ok (x, k, os))) _ (run T vs (operand [] (m.case_ at us))) (λ e. have e [] (m.case_ at us)) (λ e j ws. (j ≡ k) × Stop 2 (op_of (sign_at ws)) e) (λ e. want (m.in_case at e ∷ us)) (λ e k vs. Took T n k)
+          (sim_then T (r.read T b r.conditional (suc k) vs) _ (run T vs (operand [] (m.case_ at us))) (λ e. have e [] (m.case_ at us)) (Got T 2 (place_at vs) (inner T [] (m.case_ at us))) (λ e. have e [] (m.case_ at us)) (λ e j ws. (j ≡ k) × Stop 2 (op_of (sign_at ws)) e)
+            ((read_reads T b).conditional [] (m.case_ at us) (suc k) vs (omega arith) (ap suc (g.nesting ∙ nn)))
+            (λ e j ws ge. (refl, (refl, ge.stop))))
+          (λ e j ws ge. sim_then T (expect T sign.Colon j ws) _ (run T ws (have e [] (m.case_ at us))) (λ y. want (m.in_case at e ∷ us)) (λ y i os. Took T j i) (λ e. want (m.in_case at e ∷ us)) (λ e k vs. Took T n k)
+            (sim_expect T (have e [] (m.case_ at us)) (want (m.in_case at e ∷ us)) sign.Colon j ws refl
+              (λ t rest l w. use_step T e (m.case_ at us) ws ge.1 t rest l ∙ ap (λ y. close_use (m.case_ at us) e y) w ∙ ap (λ i. goes i (want (m.in_case at e ∷ us))) (sym (ge.0 ∙ g.nesting ∙ nn)))
+              (λ t rest l w. use_step T e (m.case_ at us) ws ge.1 t rest l ∙ case_none at us e (sign_of_word t.word) w))
+            (λ y i os h. (refl, record { nesting = h.nesting ∙ ge.0 ∙ g.nesting }))))
+
+    case_sim : (us : List Under) (n : ℕ) (ts : List Lexeme) → n ≡ suc (inside us) → Plain us ts → sign_at ts ≡ sign.Case → Stat us n ts (st.case_statement T b S (place_at ts))
+    unfolding st.case_statement
+    case_sim us n ts nn pl is = let at = place_at ts in sim_then T (st.case_label T (r.read T b) n ts) _ (run T ts (want us)) (λ e. want (m.in_case at e ∷ us)) (λ e k vs. Took T n k) (λ x. got x us) Nothing
+        (label_sim at us n ts nn pl is refl)
+        (λ e k vs g. sim_then T (S.one k vs) _ (run T vs (want (m.in_case at e ∷ us))) (λ a. got a (m.in_case at e ∷ us)) (λ a i os. Took T k i) (λ x. got x us) Nothing
+          (S_reads.one (m.in_case at e ∷ us) k vs (g.nesting ∙ nn) (λ t rest l. refl))
+          (λ a i os h. (same_got a (tree_.Case at e a) (m.in_case at e ∷ us) us os (λ t. refl), tt)))
+
+    default_sim : (us : List Under) (n : ℕ) (ts : List Lexeme) → n ≡ suc (inside us) → Plain us ts → sign_at ts ≡ sign.Default → Stat us n ts (st.default_statement T b S (place_at ts))
+    unfolding st.default_statement
+    default_sim us n ts nn pl is = let at = place_at ts in sim_then T (eat T n ts) _ (run T ts (want us)) (λ x. m.expect sign.Colon (suc (inside us)) (want (m.in_default at ∷ us))) (λ x k vs. Took T n k) (λ x. got x us) Nothing
+        (sim_eat T (want us) (m.expect sign.Colon (suc (inside us)) (want (m.in_default at ∷ us))) n ts refl (first_step us n ts sign.Default (λ z. m.expect sign.Colon (suc (inside us)) (want (m.in_default z ∷ us))) nn pl is (λ p w. refl)))
+        (λ x k vs g. sim_then T (expect T sign.Colon k vs) _ (run T vs (m.expect sign.Colon (suc (inside us)) (want (m.in_default at ∷ us)))) (λ y. want (m.in_default at ∷ us)) (λ y j ws. Took T k j) (λ x. got x us) Nothing
+          (expected_sim T sign.Colon (suc (inside us)) (want (m.in_default at ∷ us)) k vs (g.nesting ∙ nn) refl refl)
+          (λ y j ws h. sim_then T (S.one j ws) _ (run T ws (want (m.in_default at ∷ us))) (λ a. got a (m.in_default at ∷ us)) (λ a i os. Took T j i) (λ x. got x us) Nothing
+            (S_reads.one (m.in_default at ∷ us) j ws (h.nesting ∙ g.nesting ∙ nn) (λ t rest l. refl))
+            (λ a i os f. (same_got a (tree_.Default at a) (m.in_default at ∷ us) us os (λ t. refl), tt))))
+
+    jump_sim : (us : List Under) (n : ℕ) (ts : List Lexeme) (x : Sign) (y : At → Statement) → n ≡ suc (inside us) → Plain us ts → sign_at ts ≡ x → ((p : At) (w : Word) → m.on_statement p w x us ≡ goes (suc (inside us)) (m.expect sign.Semicolon (suc (inside us)) (got (y p) us))) → Stat us n ts (eat T >> (expect T sign.Semicolon >> pure (y (place_at ts))))
+    jump_sim us n ts x y nn pl is does = let at = place_at ts in sim_then T (eat T n ts) _ (run T ts (want us)) (λ z. m.expect sign.Semicolon (suc (inside us)) (got (y at) us)) (λ z k vs. Took T n k) (λ x. got x us) Nothing
+        (sim_eat T (want us) (m.expect sign.Semicolon (suc (inside us)) (got (y at) us)) n ts refl (first_step us n ts x (λ z. m.expect sign.Semicolon (suc (inside us)) (got (y z) us)) nn pl is does))
+        (λ z k vs g. sim_then T (expect T sign.Semicolon k vs) _ (run T vs (m.expect sign.Semicolon (suc (inside us)) (got (y at) us))) (λ z. got (y at) us) (λ z j ws. Took T k j) (λ x. got x us) Nothing
+          (expected_sim T sign.Semicolon (suc (inside us)) (got (y at) us) k vs (g.nesting ∙ nn) refl refl)
+          (λ z j ws h. (refl, tt)))
+
+    return_sim : (us : List Under) (n : ℕ) (ts : List Lexeme) → n ≡ suc (inside us) → Plain us ts → sign_at ts ≡ sign.Return → Stat us n ts (st.return_statement T b S (place_at ts))
+    unfolding st.return_statement
+    return_sim us n ts nn pl is = let at = place_at ts in let ahead : State = either sign.Semicolon (suc (inside us)) (got (tree_.Return at None) us) (operand [] (m.return_ at us)) in
+        sim_then T (eat T n ts) _ (run T ts (want us)) (λ x. ahead) (λ x k vs. Took T n k) (λ x. got x us) Nothing
+        (sim_eat T (want us) ahead n ts refl (first_step us n ts sign.Return (λ z. either sign.Semicolon (suc (inside us)) (got (tree_.Return z None) us) (operand [] (m.return_ z us))) nn pl is (λ p w. refl)))
+        (λ x k vs g. sim_then T (st.optional T (r.read T b) sign.Semicolon k vs) _ (run T vs ahead) (λ e. got (tree_.Return at e) us) (Maybe (m.return_ at us) (place_at vs)) (λ x. got x us) Nothing
+          (optional_sim b (m.return_ at us) sign.Semicolon ahead (λ e. got (tree_.Return at e) us) k vs (g.nesting ∙ nn) refl refl
+            (λ t rest l w. either_yes sign.Semicolon (suc (inside us)) (got (tree_.Return at None) us) (operand [] (m.return_ at us)) vs refl refl t rest l w ∙ ap (λ c. goes c (got (tree_.Return at None) us)) (sym (g.nesting ∙ nn)))
+            (λ w. either_no sign.Semicolon (suc (inside us)) (got (tree_.Return at None) us) (operand [] (m.return_ at us)) vs refl w)
+            (λ e. refl) (return_none at us))
+          (λ e j ws h. (refl, tt)))
+
+    abbrev evaluated : At → List Under → Option Expr → State
+    evaluated at us None = got (tree_.Evaluate at None) us
+    evaluated at us (Some e) = got (tree_.Evaluate (place_of e) (Some e)) us
+
+    expression_sim : (us : List Under) (n : ℕ) (ts : List Lexeme) → n ≡ suc (inside us) → Plain us ts → (same (sign_at ts) sign.Semicolon ≡ false → (t : Lexeme) → sign_of_word t.word ≡ sign_at ts → m.on_statement t.at t.word (sign_of_word t.word) us ≡ m.on_operand t.at t.word [] (m.evaluate us)) → Stat us n ts (st.expression_statement T b S (place_at ts))
+    unfolding st.expression_statement
+    expression_sim us n ts nn pl op = let at = place_at ts in sim_then T (st.optional T (r.read T b) sign.Semicolon n ts) _ (run T ts (want us)) (evaluated at us) (Maybe (m.evaluate us) (place_at ts)) (λ x. got x us) Nothing
+        (optional_sim b (m.evaluate us) sign.Semicolon (want us) (evaluated at us) n ts nn refl refl
+          (λ t rest l w. pl t rest l ∙ ap (λ y. m.on_statement t.at t.word y us) w ∙ ap (λ z. goes (suc (inside us)) (got (tree_.Evaluate z None) us)) (place_is T ts t rest l) ∙ ap (λ c. goes c (got (tree_.Evaluate at None) us)) (sym nn))
+          (λ w. same_run T (want us) (operand [] (m.evaluate us)) ts refl (λ t rest l. pl t rest l ∙ op w t (sign_is T ts t rest (sign_at ts) l refl)))
+          (λ e. refl) (evaluate_none us))
+        (λ e j ws h. (placed_at e ws h.place, tt))
+      where
+        placed_at : (e : Option Expr) (ws : List Lexeme) → ((x : Expr) → e ≡ Some x → place_of x ≡ place_at ts) → run T ws (evaluated (place_at ts) us e) ≡ run T ws (got (tree_.Evaluate (place_at ts) e) us)
+        placed_at None ws h = refl
+        placed_at (Some x) ws h = ap (λ z. run T ws (got (tree_.Evaluate z (Some x)) us)) (h x refl)

@@ -279,6 +279,13 @@ module _ (T : ℕ → Bool) where
       (λ y k vs g. (refl, g.nesting ∙ nn))
   start_sim b at us n ts nn x is = started_sim b at us n ts nn (ap (λ y. same y sign.Semicolon) is)
 
+  -- another state that does the same
+  restate : {A : Type 0} (a : Read A) (v : Outcome) (k l : A → State) (Q : A → ℕ → List Lexeme → Type 0) → ((x : A) (vs : List Lexeme) → run T vs (k x) ≡ run T vs (l x)) → Sim T a v k Q → Sim T a v l Q
+  restate (Ok x) v k l Q h s = (s.0 ∙ h x.0 x.2, s.1)
+  restate (Err (Wrong j)) v k l Q h s = s
+  restate (Err (Deep j)) v k l Q h s = s
+  restate (Err Out) v k l Q h s = tt
+
   module _ (b : ℕ) (S : st.Statements) (S_reads : Stat_reads S) where
     -- the first word of a statement
     first_step : (us : List Under) (n : ℕ) (ts : List Lexeme) (x : Sign) (s2 : At → State) → n ≡ suc (inside us) → Plain us ts → sign_at ts ≡ x → ((p : At) (w : Word) → m.on_statement p w x us ≡ goes (suc (inside us)) (s2 p)) → (t : Lexeme) (rest : List Lexeme) → ts ≡ t ∷ rest → step (want us) t ≡ Some (n, s2 (place_at ts))
@@ -472,3 +479,198 @@ module _ (T : ℕ → Bool) where
         placed_at : (e : Option Expr) (ws : List Lexeme) → ((x : Expr) → e ≡ Some x → place_of x ≡ place_at ts) → run T ws (evaluated (place_at ts) us e) ≡ run T ws (got (tree_.Evaluate (place_at ts) e) us)
         placed_at None ws h = refl
         placed_at (Some x) ws h = ap (λ z. run T ws (got (tree_.Evaluate z (Some x)) us)) (h x refl)
+
+    by_statement : (us : List Under) (n : ℕ) (ts : List Lexeme) → n ≡ suc (inside us) → Plain us ts → (x : Sign) → sign_at ts ≡ x → Stat us n ts (st.statement_by T b S (place_at ts) x)
+    unfolding st.break_statement st.continue_statement
+    by_statement us n ts nn pl sign.LeftBrace is = block_statement_sim us n ts nn pl is
+    by_statement us n ts nn pl sign.If is = if_sim us n ts nn pl is
+    by_statement us n ts nn pl sign.While is = while_sim us n ts nn pl is
+    by_statement us n ts nn pl sign.Do is = do_sim us n ts nn pl is
+    by_statement us n ts nn pl sign.For is = for_sim us n ts nn pl is
+    by_statement us n ts nn pl sign.Switch is = switch_sim us n ts nn pl is
+    by_statement us n ts nn pl sign.Case is = case_sim us n ts nn pl is
+    by_statement us n ts nn pl sign.Default is = default_sim us n ts nn pl is
+    by_statement us n ts nn pl sign.Break is = jump_sim us n ts sign.Break (λ p. tree_.Break p) nn pl is (λ p w. refl)
+    by_statement us n ts nn pl sign.Continue is = jump_sim us n ts sign.Continue (λ p. tree_.Continue p) nn pl is (λ p w. refl)
+    by_statement us n ts nn pl sign.Return is = return_sim us n ts nn pl is
+    by_statement us n ts nn pl sign.Semicolon is = expression_sim us n ts nn pl (λ w t e. absurd (apart (sym w ∙ ap (λ y. same y sign.Semicolon) is)))
+      where
+        apart : false ≡ true → ⊥
+        apart z = absurd cc
+    by_statement us n ts nn pl x is = expression_sim us n ts nn pl (λ w t e. ap (λ y. m.on_statement t.at t.word y us) (e ∙ is))
+
+    one_sim : (us : List Under) (n : ℕ) (ts : List Lexeme) → n ≡ inside us → Plain us ts → Sim T ((st.statements_step T b S).one n ts) (run T ts (want us)) (λ x. got x us) (λ x k vs. Took T n k)
+    one_sim us n ts nn pl = sim_then T (st.statement_by T b S (place_at ts) (sign_at ts) (suc n) ts) _ (run T ts (want us)) (λ x. got x us) Nothing (λ x. got x us) (λ x k vs. Took T n k)
+        (by_statement us (suc n) ts (ap suc nn) pl (sign_at ts) refl)
+        (λ x k vs g. (refl, record { nesting = refl }))
+
+    -- ---- blocks
+
+    plain_item : (p : At) (w : Word) (us : List Under) (x : Sign) → q.begins_declaration x ≡ false → same x sign.RightBrace ≡ false → m.on_item p w x us ≡ m.on_statement p w x us
+    unfolding q.begins_declaration
+    plain_item p w us sign.RightBrace h v = absurd cc
+    plain_item p w us sign.Void h v = absurd cc
+    plain_item p w us sign.Char h v = absurd cc
+    plain_item p w us sign.Int h v = absurd cc
+    plain_item p w us sign.Signed h v = absurd cc
+    plain_item p w us sign.Unsigned h v = absurd cc
+    plain_item p w us x h v = refl
+
+    item_step : (c : Open_block) (ss : List Statement) (t : Lexeme) → step (want (unders c ss)) t ≡ m.on_item t.at t.word (sign_of_word t.word) (unders c ss)
+    item_step (of_block at us) ss t = refl
+    item_step (of_switch at e us) ss t = refl
+    item_step (of_body ps at g f qs) ss t = refl
+
+    nest_is : (c : Open_block) (ss : List Statement) → inside (unders c ss) ≡ nest c
+    nest_is (of_block at us) ss = refl
+    nest_is (of_switch at e us) ss = refl
+    nest_is (of_body ps at g f qs) ss = refl
+
+    adds_one : (c : Open_block) (ss : List Statement) (x : Statement) → add x (unders c ss) ≡ unders c (ss ++ x ∷ [])
+    adds_one (of_block at us) ss x = refl
+    adds_one (of_switch at e us) ss x = refl
+    adds_one (of_body ps at g f qs) ss x = refl
+
+    settles : (c : Open_block) (ss : List Statement) (x : Statement) (t : Lexeme) → step (got x (unders c ss)) t ≡ step (want (unders c (ss ++ x ∷ []))) t
+    settles (of_block at us) ss x t = refl
+    settles (of_switch at e us) ss x t = refl
+    settles (of_body ps at g f qs) ss x t = refl
+
+    closes_block : (c : Open_block) (ss : List Statement) (p : At) (w : Word) → m.on_item p w sign.RightBrace (unders c ss) ≡ goes (nest c) (closed c ss)
+    closes_block (of_block at us) ss p w = refl
+    closes_block (of_switch at e us) ss p w = refl
+    closes_block (of_body ps at g f qs) ss p w = refl
+
+    block_item_sim : (c : Open_block) (ss : List Statement) (n : ℕ) (ts : List Lexeme) → n ≡ nest c → same (sign_at ts) sign.RightBrace ≡ false → Sim T (st.block_item T b S n ts) (run T ts (want (unders c ss))) (λ x. want (unders c (ss ++ x ∷ []))) (λ x k vs. Took T n k)
+    unfolding st.block_item
+    block_item_sim c ss n ts nn brace = by_decl (q.begins_declaration (sign_at ts)) refl
+      where
+        by_decl : (d0 : Bool) → q.begins_declaration (sign_at ts) ≡ d0 → Sim T ((cond d0 (d.declaration T b >>= (λ x. pure (tree_.Declared x))) S.one) n ts) (run T ts (want (unders c ss))) (λ x. want (unders c (ss ++ x ∷ []))) (λ x k vs. Took T n k)
+        by_decl true is = sim_then T (d.declaration T b n ts) _ (run T ts (want (unders c ss))) (λ x. conclude (m.at_block (unders c ss)) x) (λ x k vs. Took T n k) (λ x. want (unders c (ss ++ x ∷ []))) (λ x k vs. Took T n k)
+            (declaration_sim T b (want (unders c ss)) (m.at_block (unders c ss)) n ts (nn ∙ sym (nest_is c ss)) (λ k qs. refl) (item_starts c ss n ts nn is))
+            (λ x k vs g. (ap (λ us. run T vs (want us)) (adds_one c ss (tree_.Declared x)), g))
+        by_decl false is = sim_weaker_state (sim_as T (S.one n ts) (run T ts (want (unders c ss))) (run T ts (want (unders c ss))) (λ x. got x (unders c ss)) (λ x k vs. Took T n k) refl
+            (S_reads.one (unders c ss) n ts (nn ∙ sym (nest_is c ss)) (λ t rest l. item_step c ss t ∙ plain_item t.at t.word (unders c ss) (sign_of_word t.word) (ap q.begins_declaration (sign_is T ts t rest (sign_at ts) l refl) ∙ is) (ap (λ y. same y sign.RightBrace) (sign_is T ts t rest (sign_at ts) l refl) ∙ brace))))
+          where
+            sim_weaker_state : Sim T (S.one n ts) (run T ts (want (unders c ss))) (λ x. got x (unders c ss)) (λ x k vs. Took T n k) → Sim T (S.one n ts) (run T ts (want (unders c ss))) (λ x. want (unders c (ss ++ x ∷ []))) (λ x k vs. Took T n k)
+            sim_weaker_state h = restate (S.one n ts) (run T ts (want (unders c ss))) (λ x. got x (unders c ss)) (λ x. want (unders c (ss ++ x ∷ []))) (λ x k vs. Took T n k) (λ x vs. same_run T (got x (unders c ss)) (want (unders c (ss ++ x ∷ []))) vs refl (λ t rest l. settles c ss x t)) h
+
+    abbrev after_item : Open_block → List Statement → Option Statement → State
+    after_item c ss None = closed c ss
+    after_item c ss (Some x) = want (unders c (ss ++ x ∷ []))
+
+    next_item_sim : (c : Open_block) (ss : List Statement) (n : ℕ) (ts : List Lexeme) → n ≡ nest c → Sim T (st.next_item T b S n ts) (run T ts (want (unders c ss))) (after_item c ss) (λ x k vs. Took T n k)
+    unfolding st.next_item
+    next_item_sim c ss n ts nn = by_sign (same (sign_at ts) sign.RightBrace) refl
+      where
+        by_sign : (e : Bool) → same (sign_at ts) sign.RightBrace ≡ e → Sim T ((cond e (eat T >> pure None) (st.block_item T b S >>= (λ x. pure (Some x)))) n ts) (run T ts (want (unders c ss))) (after_item c ss) (λ x k vs. Took T n k)
+        by_sign true is = sim_then T (eat T n ts) _ (run T ts (want (unders c ss))) (λ x. closed c ss) (λ x k vs. Took T n k) (after_item c ss) (λ x k vs. Took T n k)
+            (sim_eat T (want (unders c ss)) (closed c ss) n ts refl (λ t rest l. item_step c ss t ∙ ap (λ x. m.on_item t.at t.word x (unders c ss)) (sign_is T ts t rest sign.RightBrace l (same_true the_type (search rules) (sign_at ts) sign.RightBrace is)) ∙ closes_block c ss t.at t.word ∙ ap (λ k. goes k (closed c ss)) (sym nn)))
+            (λ x k vs g. (refl, g))
+        by_sign false is = sim_then T (st.block_item T b S n ts) _ (run T ts (want (unders c ss))) (λ x. want (unders c (ss ++ x ∷ []))) (λ x k vs. Took T n k) (after_item c ss) (λ x k vs. Took T n k)
+            (block_item_sim c ss n ts nn is)
+            (λ x k vs g. (refl, g))
+
+    rest_sim : (c : Open_block) (ss : List Statement) (n : ℕ) (ts : List Lexeme) → n ≡ nest c → Sim T ((st.statements_step T b S).rest ss n ts) (run T ts (want (unders c ss))) (closed c) Nothing
+    rest_sim c ss n ts nn = sim_then T (st.next_item T b S n ts) (st.continued T b S ss) (run T ts (want (unders c ss))) (after_item c ss) (λ x k vs. Took T n k) (closed c) Nothing
+        (next_item_sim c ss n ts nn)
+        onward
+      where
+        onward : (o : Option Statement) (k : ℕ) (vs : List Lexeme) → Took T n k → Sim T (st.continued T b S ss o k vs) (run T vs (after_item c ss o)) (closed c) Nothing
+        onward None k vs g = (refl, tt)
+        onward (Some x) k vs g = S_reads.rest c (ss ++ x ∷ []) k vs (g.nesting ∙ nn)
+
+    pub step_stats : Stat_reads (st.statements_step T b S)
+    step_stats = record { one = one_sim; rest = rest_sim }
+
+  pub stats_read : (b : ℕ) → Stat_reads (st.statements T b)
+  stats_read zero = record { one = λ us n ts nn pl. tt; rest = λ c ss n ts nn. tt }
+  stats_read (suc b) = step_stats b (st.statements T b) (stats_read b)
+
+  -- ---- programs
+
+  top_type : (p : At) (ps : List External) (x : Sign) (ty : TypeWords) → type_of x ≡ Some ty → m.on_program p x ps ≡ Some (0, declaring p (gives.Value ty) (m.at_top ps))
+  top_type p ps sign.Char ty is = ap (λ o. m.on_declaration p sign.Char o (m.at_top ps) None) is
+  top_type p ps sign.Int ty is = ap (λ o. m.on_declaration p sign.Int o (m.at_top ps) None) is
+  top_type p ps sign.Signed ty is = ap (λ o. m.on_declaration p sign.Signed o (m.at_top ps) None) is
+  top_type p ps sign.Unsigned ty is = ap (λ o. m.on_declaration p sign.Unsigned o (m.at_top ps) None) is
+  top_type p ps _ ty is = absurd cc
+
+  top_other : (p : At) (ps : List External) (x : Sign) → type_of x ≡ None → same x sign.Void ≡ false → same x sign.Include ≡ false → same x sign.End ≡ false → m.on_program p x ps ≡ None
+  top_other p ps sign.Include t v i e = absurd cc
+  top_other p ps sign.End t v i e = absurd cc
+  top_other p ps sign.Void t v i e = absurd cc
+  top_other p ps sign.Char t v i e = absurd cc
+  top_other p ps sign.Int t v i e = absurd cc
+  top_other p ps sign.Signed t v i e = absurd cc
+  top_other p ps sign.Unsigned t v i e = absurd cc
+  top_other p ps x t v i e = refl
+
+  abbrev head : At → Return → List ℕ → List External → Heading
+  head at g f ps = record { at = at; gives = g; name = f; home = m.at_top ps }
+
+  part_sim : (b : ℕ) (ps : List External) (o : Opening) (n : ℕ) (ts : List Lexeme) → n ≡ 0 → Sim T (st.part T b o n ts) (run T ts (opened_by T (m.at_top ps) o)) (λ x. m.program (ps ++ x ∷ [])) (λ x k vs. Took T n k)
+  unfolding st.part
+  part_sim b ps (opening_.Objects x) n ts nn = (refl, record { nesting = refl })
+  part_sim b ps (opening_.Function at g f qs) n ts nn = by_sign (same (sign_at ts) sign.LeftBrace) refl
+    where
+      no_brace : (x : Sign) → same x sign.LeftBrace ≡ false → sign_at ts ≡ x → same (sign_at ts) sign.LeftBrace ≡ true → ⊥
+      no_brace x w e h = apart (sym w ∙ ap (λ y. same y sign.LeftBrace) (sym e) ∙ h)
+        where
+          apart : false ≡ true → ⊥
+          apart z = absurd cc
+
+      by_sign : (c : Bool) → same (sign_at ts) sign.LeftBrace ≡ c → Sim T ((cond c (st.block T (st.statements T b) >>= (λ ss. pure (external.Defined at g f qs ss))) (expect T sign.Semicolon >>= (λ x. pure (external.Declared (declaration.Function at g f qs))))) n ts) (run T ts (header (head at g f ps) qs)) (λ x. m.program (ps ++ x ∷ [])) (λ x k vs. Took T n k)
+      by_sign true is = sim_then T (st.block T (st.statements T b) n ts) _ (run T ts (header (head at g f ps) qs)) (closed (of_body ps at g f qs)) (λ x k vs. Took T n k) (λ x. m.program (ps ++ x ∷ [])) (λ x k vs. Took T n k)
+          (block_sim b (st.statements T b) (stats_read b) (of_body ps at g f qs) (header (head at g f ps) qs) n ts (ap suc nn) refl
+            (λ t rest l w. ap (λ y. m.on_header (head at g f ps) qs y) w ∙ ap (λ k. goes (suc k) (want (m.in_body ps at g f qs [] ∷ []))) (sym nn))
+            (λ t rest l w. absurd (no_brace (sign_of_word t.word) w (sym (sign_is T ts t rest (sign_at ts) l refl)) is)))
+          (λ ss k vs h. (refl, h))
+      by_sign false is = sim_then T (expect T sign.Semicolon n ts) _ (run T ts (header (head at g f ps) qs)) (λ x. m.program (ps ++ external.Declared (declaration.Function at g f qs) ∷ [])) (λ x k vs. Took T n k) (λ x. m.program (ps ++ x ∷ [])) (λ x k vs. Took T n k)
+          (header_end T (head at g f ps) qs n ts nn (inr is))
+          (λ x k vs h. (refl, h))
+
+  external_sim : (b : ℕ) (ps : List External) (n : ℕ) (ts : List Lexeme) → n ≡ 0 → same (sign_at ts) sign.End ≡ false → (x : Sign) → sign_at ts ≡ x → Sim T (st.external_by T b (place_at ts) x n ts) (run T ts (m.program ps)) (λ x. m.program (ps ++ x ∷ [])) (λ x k vs. Took T n k)
+  external_sim b ps n ts nn end_ sign.Include is = sim_then T (eat T n ts) _ (run T ts (m.program ps)) (λ x. m.program (ps ++ external.Include (place_at ts) ∷ [])) (λ x k vs. Took T n k) (λ x. m.program (ps ++ x ∷ [])) (λ x k vs. Took T n k)
+      (sim_eat T (m.program ps) (m.program (ps ++ external.Include (place_at ts) ∷ [])) n ts refl (λ t rest l. ap (λ y. m.on_program t.at y ps) (sign_is T ts t rest sign.Include l is) ∙ ap (λ z. goes 0 (m.program (ps ++ external.Include z ∷ []))) (place_is T ts t rest l) ∙ ap (λ k. goes k (m.program (ps ++ external.Include (place_at ts) ∷ []))) (sym nn)))
+      (λ x k vs g. (refl, g))
+  external_sim b ps n ts nn end_ x is = sim_then T (d.opening T b n ts) _ (run T ts (m.program ps)) (opened_by T (m.at_top ps)) (λ x k vs. Took T n k) (λ x. m.program (ps ++ x ∷ [])) (λ x k vs. Took T n k)
+      (openings_sim T b (m.program ps) (m.at_top ps) n ts nn (record {
+        by_type = λ t rest l ty e. top_type t.at ps (sign_of_word t.word) ty e ∙ ap (λ z. goes 0 (declaring z (gives.Value ty) (m.at_top ps))) (place_is T ts t rest l) ∙ ap (λ k. goes k (declaring (place_at ts) (gives.Value ty) (m.at_top ps))) (sym nn);
+        by_void = λ t rest l w. ap (λ y. m.on_program t.at y ps) w ∙ ap (λ z. goes 0 (declaring z gives.Void (m.at_top ps))) (place_is T ts t rest l) ∙ ap (λ k. goes k (declaring (place_at ts) gives.Void (m.at_top ps))) (sym nn);
+        by_other = λ t rest l e v. top_other t.at ps (sign_of_word t.word) e v (ap (λ y. same y sign.Include) (sign_is T ts t rest x l is)) (ap (λ y. same y sign.End) (sign_is T ts t rest (sign_at ts) l refl) ∙ end_);
+        ends = refl;
+      }))
+      (λ o k vs g. sim_weaker T _ _ (λ x. m.program (ps ++ x ∷ [])) _ (λ x j ws. Took T n j) (λ x j ws h. record { nesting = h.nesting ∙ g.nesting }) (part_sim b ps o k vs (g.nesting ∙ nn)))
+
+  record Parts (us : List Lexeme) : Type 0 where
+    end_next : same (sign_at us) sign.End ≡ true
+
+  abbrev after_part : List External → Option External → State
+  after_part ps None = m.program ps
+  after_part ps (Some x) = m.program (ps ++ x ∷ [])
+
+  abbrev Part_next : Option External → ℕ → List Lexeme → Type 0
+  Part_next None k us = same (sign_at us) sign.End ≡ true
+  Part_next (Some x) k us = k ≡ 0
+
+  next_part_sim : (b : ℕ) (ps : List External) (n : ℕ) (ts : List Lexeme) → n ≡ 0 → Sim T (st.next_part T b n ts) (run T ts (m.program ps)) (after_part ps) Part_next
+  unfolding st.next_part st.external
+  next_part_sim b ps n ts nn = by_sign (same (sign_at ts) sign.End) refl
+    where
+      by_sign : (c : Bool) → same (sign_at ts) sign.End ≡ c → Sim T ((cond c (pure None) (st.external T b >>= (λ x. pure (Some x)))) n ts) (run T ts (m.program ps)) (after_part ps) Part_next
+      by_sign true is = (refl, is)
+      by_sign false is = sim_then T (st.external_by T b (place_at ts) (sign_at ts) n ts) _ (run T ts (m.program ps)) (λ x. m.program (ps ++ x ∷ [])) (λ x k vs. Took T n k) (after_part ps) Part_next
+          (external_sim b ps n ts nn is (sign_at ts) refl)
+          (λ x k vs g. (refl, g.nesting ∙ nn))
+
+  pub parts_sim : (b : ℕ) (ps : List External) (n : ℕ) (ts : List Lexeme) → n ≡ 0 → Sim T (st.parts T b ps n ts) (run T ts (m.program ps)) (λ xs. m.program xs) (λ xs k us. same (sign_at us) sign.End ≡ true)
+  unfolding st.parts
+  parts_sim zero ps n ts nn = tt
+  parts_sim (suc b) ps n ts nn = sim_then T (st.next_part T b n ts) (st.joined T ps (st.parts T b)) (run T ts (m.program ps)) (after_part ps) Part_next (λ xs. m.program xs) (λ xs k us. same (sign_at us) sign.End ≡ true)
+      (next_part_sim b ps n ts nn)
+      (λ o k vs g. onward o k vs g (λ x e. parts_sim b (ps ++ x ∷ []) k vs e))
+    where
+      onward : (o : Option External) (k : ℕ) (vs : List Lexeme) → Part_next o k vs → ((x : External) → k ≡ 0 → Sim T (st.parts T b (ps ++ x ∷ []) k vs) (run T vs (m.program (ps ++ x ∷ []))) (λ xs. m.program xs) (λ xs k us. same (sign_at us) sign.End ≡ true)) → Sim T (st.joined T ps (st.parts T b) o k vs) (run T vs (after_part ps o)) (λ xs. m.program xs) (λ xs k us. same (sign_at us) sign.End ≡ true)
+      onward None k vs g h = (refl, g)
+      onward (Some x) k vs g h = h x g

@@ -16,3 +16,4 @@ mod Whole
 mod Sim
 mod DeclSim
 mod StatSim
+mod Parsed

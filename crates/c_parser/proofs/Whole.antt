@@ -51,10 +51,10 @@ met_all (t ∷ ts) (l ∷ ls) s = (s.0, s.1, refl, met_all ts ls s.2)
 pub accepts : (p : Syntax) (ts : List Lexeme) → (program p).fits ≡ true → Spells ts (leaves_of_program p) → run all ts (m.program []) ≡ Ok p.parts
 accepts p ts fits s = complete_program all p ts fits (record { meets = met_all ts (leaves_of_program p) s })
 
-abbrev okay : List External → Outcome
+abbrev pub okay : List External → Outcome
 okay ps = Ok ps
 
-ok_same : (a b : List External) → okay a ≡ okay b → a ≡ b
+pub ok_same : (a b : List External) → okay a ≡ okay b → a ≡ b
 ok_same a b e = cc
 
 pub unique : Unique

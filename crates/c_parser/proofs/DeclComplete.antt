@@ -71,7 +71,7 @@ module _ (T : ℕ → Bool) where
   sizes i (size.Given e) ps fits r ts w nb mt go =
       let p = fit 2 e _ fits in
       took T (item_named i) (either sign.RightBracket (home_nesting i.home) (item_sized i size.Absent) (operand [] (m.size_ i))) ts w (λ q st. refl) mt
-      (λ vs mv. skip T (either sign.RightBracket (home_nesting i.home) (item_sized i size.Absent) (operand [] (m.size_ i))) (operand [] (m.size_ i)) vs
+      (λ vs mv. skip T (either sign.RightBracket (home_nesting i.home) (item_sized i size.Absent) (operand [] (m.size_ i))) (operand [] (m.size_ i)) refl vs
           (λ t st. ap (λ b. cond b (goes (home_nesting i.home) (item_sized i size.Absent)) (step (operand [] (m.size_ i)) t)) (not_sign t.word sign.RightBracket st refl)) (heads e _ _) mv
         ∙ (complete T e p.fits).all (omega (arith, p.level)) [] (m.size_ i) p.level _ (follow_none _ _ refl) vs w mv
           (λ xs mx. took T (have e [] (m.size_ i)) (item_sized i (size.Given e)) xs w (λ q st. refl) mx go))
@@ -94,7 +94,7 @@ module _ (T : ℕ → Bool) where
       let p = fit 1 e _ fits in
       (complete T e p.fits).all p.level [] (m.list_ i z done) p.level _ (follow_comma _ _ refl) ts w mt
         (λ xs mx. took T (have e [] (m.list_ i z done)) (value_after i z (done ++ e ∷ [])) xs w (λ q st. refl) mx
-          (λ ys my. skip T (value_after i z (done ++ e ∷ [])) (operand [] (m.list_ i z (done ++ e ∷ []))) ys
+          (λ ys my. skip T (value_after i z (done ++ e ∷ [])) (operand [] (m.list_ i z (done ++ e ∷ []))) refl ys
               (λ t st. ap (λ b. cond b (goes (home_nesting i.home) (item_end i z (initialiser.List (done ++ e ∷ []) true))) (step (operand [] (m.list_ i z (done ++ e ∷ []))) t)) (not_sign t.word sign.RightBrace st refl)) (value_head f es _ _ _) my
             ∙ values_run i z (done ++ e ∷ []) f es last p.rest r ys w my (λ zs mz. ap (λ l. run T zs (item_end i z (initialiser.List l last))) (append_assoc done (e ∷ []) (f ∷ es)) ∙ go zs mz)))
     where
@@ -126,7 +126,7 @@ module _ (T : ℕ → Bool) where
   initials i z (initialiser.Value e) fits r ends ts w mt go =
       let p = fit 1 e true fits in
       took T (item_sized i z) (begun_value i z) ts w (λ q st. refl) mt
-      (λ vs mv. skip T (begun_value i z) (operand [] (m.value_ i z)) vs
+      (λ vs mv. skip T (begun_value i z) (operand [] (m.value_ i z)) refl vs
           (λ t st. ap (λ b. cond b (goes (home_nesting i.home) (operand [] (m.list_ i z []))) (step (operand [] (m.value_ i z)) t)) (not_sign t.word sign.LeftBrace st refl)) (heads e _ _) mv
         ∙ (complete T e p.fits).all p.level [] (m.value_ i z) p.level r (ends_binds r ends _) vs w mv
           (λ xs mx. ended_value i z e r xs ends mx ∙ go xs mx))

@@ -182,7 +182,7 @@ module _ (T : ℕ → Bool) where
       let p = and_parts (about a).fits _ (subst (λ (s : Said). s.fits ≡ true) (said_paren at a) fits) in
       subst (λ s. Claims (tree.Paren at a) s) (sym (said_paren at a)) (from_all _ _ (omega arith)
       (λ fs u h r f ts w mt go. took T (operand fs u) (opened at fs u) ts w (λ q st. ap (λ z. goes (first fs u) (opened z fs u)) (sym st)) mt
-        (λ vs mv. skip T (opened at fs u) (operand (m.paren at ∷ fs) u) vs (λ t st. ap (λ o. m.on_opened at t.at t.word o fs u) (no_type _ st)) (heads a _ _) mv
+        (λ vs mv. skip T (opened at fs u) (operand (m.paren at ∷ fs) u) refl vs (λ t st. ap (λ o. m.on_opened at t.at t.word o fs u) (no_type _ st)) (heads a _ _) mv
           ∙ (ga p.0).exp (m.paren at ∷ fs) u refl _ (follow_none _ _ refl) vs w mv
             (λ xs mx. took T (have a (m.paren at ∷ fs) u) (have (tree.Paren at a) fs u) xs w (λ z st. shut_none sign.RightParen a (m.paren at) fs u refl) mx go))))
 
@@ -254,7 +254,7 @@ module _ (T : ℕ → Bool) where
     where
       called : (es : List Known) → all_fit (closing es) ≡ true → (fs : List Frame) (u : Use) (r : List Leaf) (ts : List Lexeme) (w : Outcome) → Met T ts (leaves_of (closing es) (first fs u) r) → ((vs : List Lexeme) → Met T vs r → run T vs (have (tree.Call at n (trees es)) fs u) ≡ w) → run T ts (m.either sign.RightParen (first fs u) (have (tree.Call at n []) fs u) (operand (m.arguments at n [] ∷ fs) u)) ≡ w
       called [] fits fs u r ts w mt go = took T (m.either sign.RightParen (first fs u) (have (tree.Call at n []) fs u) (operand (m.arguments at n [] ∷ fs) u)) (have (tree.Call at n []) fs u) ts w (λ z st. refl) mt go
-      called (e ∷ es) fits fs u r ts w mt go = skip T (m.either sign.RightParen (first fs u) (have (tree.Call at n []) fs u) (operand (m.arguments at n [] ∷ fs) u)) (operand (m.arguments at n [] ∷ fs) u) ts
+      called (e ∷ es) fits fs u r ts w mt go = skip T (m.either sign.RightParen (first fs u) (have (tree.Call at n []) fs u) (operand (m.arguments at n [] ∷ fs) u)) (operand (m.arguments at n [] ∷ fs) u) refl ts
           (λ t st. ap (λ b. cond b (goes (first fs u) (have (tree.Call at n []) fs u)) (step (operand (m.arguments at n [] ∷ fs) u) t)) (not_sign t.word sign.RightParen st refl)) (first_head e es _ _) mt ∙ arguments_run at n fs u [] e es fits r ts w mt go
 
   -- the words of an expression that fits lead from where one is wanted to where it is had

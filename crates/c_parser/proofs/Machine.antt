@@ -591,6 +591,11 @@ abbrev pub moved : (ℕ → Bool) → ℕ → Next → (State → Outcome) → O
 moved T n None k = Err (Wrong n)
 moved T n (Some x) k = cond (T x.0) (k x.1) (Err (Deep n))
 
+-- nothing is read behind the end
+abbrev pub settled : Outcome → Outcome → Outcome
+settled (Ok ps) v = Ok ps
+settled (Err e) v = v
+
 abbrev pub run : (ℕ → Bool) → List Lexeme → State → Outcome
 run T [] s = at_end s
-run T (t ∷ ts) s = moved T (suc (length ts)) (step s t) (run T ts)
+run T (t ∷ ts) s = settled (at_end s) (moved T (suc (length ts)) (step s t) (run T ts))

@@ -26,12 +26,16 @@ Told us a = Sim shallow a (run shallow us (m.program [])) (λ xs. m.program xs) 
 told : (d : ℕ) (us : List Lexeme) (a : Read (List External)) → reading d us ≡ a → Told us a
 told d us a e = subst (λ b. Told us b) e (parts_sim shallow d [] 0 us refl)
 
-ended_run : (xs : List External) (t : Lexeme) → same (sign_at (t ∷ [])) sign.End ≡ true → run shallow (t ∷ []) (m.program xs) ≡ okay xs
+ended_run : (xs : List External) (t : Lexeme) (r : List Lexeme) → same (sign_at (t ∷ r)) sign.End ≡ true → run shallow (t ∷ r) (m.program xs) ≡ okay xs
 unfolding sign_at
-ended_run xs t h = at_end_sign (sign_of_word t.word) (same_true the_type (search rules) (sign_of_word t.word) sign.End h)
+ended_run xs t r h = at_end_sign (sign_of_word t.word) (same_true the_type (search rules) (sign_of_word t.word) sign.End h)
   where
-    at_end_sign : (s : Sign) → s ≡ sign.End → m.moved shallow 1 (m.on_program t.at s xs) (λ s2. run shallow [] s2) ≡ okay xs
-    at_end_sign s e = subst (λ y. m.moved shallow 1 (m.on_program t.at y xs) (λ s2. run shallow [] s2) ≡ okay xs) (sym e) refl
+    accepted : (r : List Lexeme) → run shallow r (m.finished xs) ≡ okay xs
+    accepted [] = refl
+    accepted (x ∷ r) = refl
+
+    at_end_sign : (s : Sign) → s ≡ sign.End → m.moved shallow (suc (length r)) (m.on_program t.at s xs) (λ s2. run shallow r s2) ≡ okay xs
+    at_end_sign s e = subst (λ y. m.moved shallow (suc (length r)) (m.on_program t.at y xs) (λ s2. run shallow r s2) ≡ okay xs) (sym e) (accepted r)
 
 abbrev wrong_out : ℕ → Outcome
 wrong_out n = Err (Wrong n)
@@ -39,25 +43,20 @@ wrong_out n = Err (Wrong n)
 abbrev deep_out : ℕ → Outcome
 deep_out n = Err (Deep n)
 
--- nothing is read behind the end
-long_run : (xs : List External) (t t2 : Lexeme) (r : List Lexeme) → same (sign_at (t ∷ t2 ∷ r)) sign.End ≡ true → run shallow (t ∷ t2 ∷ r) (m.program xs) ≡ wrong_out (suc (length r))
-unfolding sign_at
-long_run xs t t2 r h = at_end_sign (sign_of_word t.word) (same_true the_type (search rules) (sign_of_word t.word) sign.End h)
-  where
-    at_end_sign : (s : Sign) → s ≡ sign.End → m.moved shallow (suc (suc (length r))) (m.on_program t.at s xs) (λ s2. run shallow (t2 ∷ r) s2) ≡ wrong_out (suc (length r))
-    at_end_sign s e = subst (λ y. m.moved shallow (suc (suc (length r))) (m.on_program t.at y xs) (λ s2. run shallow (t2 ∷ r) s2) ≡ wrong_out (suc (length r))) (sym e) refl
-
-more_behind : {n : ℕ} {ps : List External} → wrong_out n ≡ okay ps → ⊥
-more_behind h = absurd cc
-
 ran_at : (us : List Lexeme) (v : Outcome) → run shallow us (m.program []) ≡ v → Ran us v
 ran_at us v e = subst (λ w. Ran us w) e (outcome us)
 
 -- what was read up to the end is the tree
-pub found : (d : ℕ) (us : List Lexeme) (xs : List External) (k : ℕ) (t : Lexeme) → reading d us ≡ Ok (xs, k, t ∷ []) → Spelled us (record { parts = xs })
-found d us xs k t e =
-    let p : Told us (Ok (xs, k, t ∷ [])) = told d us (Ok (xs, k, t ∷ [])) e in
-    read_spelled us xs (ran_at us (okay xs) (p.0 ∙ ended_run xs t p.1))
+pub found : (d : ℕ) (us : List Lexeme) (x : List External × ℕ × List Lexeme) → Ended us → reading d us ≡ Ok x → Spelled us (record { parts = x.0 })
+found d us x en e = let p : Told us (Ok x) = told d us (Ok x) e in at_rest x.2 p.1 p.0
+  where
+    at_rest : (r : List Lexeme) → same (sign_at r) sign.End ≡ true → run shallow us (m.program []) ≡ run shallow r (m.program x.0) → Spelled us (record { parts = x.0 })
+    at_rest [] h v = let k : Stuck us 0 = ran_at us (wrong_out 0) v in absurd (never_behind us 0 k en (no_length k.back k.left))
+      where
+        no_length : (l : List Lexeme) → length l ≡ 0 → l ≡ []
+        no_length [] h = refl
+        no_length (y ∷ l) h = absurd (omega (arith, h))
+    at_rest (t ∷ r) h v = read_spelled us x.0 en (ran_at us (okay x.0) (v ∙ ended_run x.0 t r h))
 
 -- the tokens from a fault on
 pub record Fault_at (us : List Lexeme) (j : ℕ) (P : Lexeme → Type 0) : Type 0 where
@@ -83,17 +82,16 @@ deep_at d us j e = let k : Sunk us j = ran_at us (Err (Deep j)) (told d us (Err 
 
 -- what is spelled within the nesting is read so, unless the bound on calls runs out
 abbrev pub Reads_so : Syntax → Read (List External) → Type 0
-Reads_so p (Ok x) = (x.0 ≡ p.parts) × (length x.2 ≡ 1)
+Reads_so p (Ok x) = x.0 ≡ p.parts
 Reads_so p (Err Out) = Unit {0}
 Reads_so p (Err _) = ⊥
 
 pub only : (d : ℕ) (us : List Lexeme) (p : Syntax) → Spelled us p → (a : Read (List External)) → reading d us ≡ a → Reads_so p a
 only d us p s (Ok x) e = let q : Told us (Ok x) = told d us (Ok x) e in rest_of x.2 q.1 (sym q.0 ∙ spelled_read p us s)
   where
-    rest_of : (r : List Lexeme) → same (sign_at r) sign.End ≡ true → run shallow r (m.program x.0) ≡ okay p.parts → (x.0 ≡ p.parts) × (length r ≡ 1)
+    rest_of : (r : List Lexeme) → same (sign_at r) sign.End ≡ true → run shallow r (m.program x.0) ≡ okay p.parts → x.0 ≡ p.parts
     rest_of [] h v = absurd cc
-    rest_of (t ∷ []) h v = (ok_same x.0 p.parts (sym (ended_run x.0 t h) ∙ v), refl)
-    rest_of (t ∷ t2 ∷ r) h v = absurd (more_behind (sym (long_run x.0 t t2 r h) ∙ v))
+    rest_of (t ∷ r) h v = ok_same x.0 p.parts (sym (ended_run x.0 t r h) ∙ v)
 only d us p s (Err (Wrong j)) e = apart (sym (told d us (Err (Wrong j)) e) ∙ spelled_read p us s)
   where
     apart : wrong_out j ≡ okay p.parts → ⊥

@@ -235,7 +235,7 @@ Reached xs (m.parameter_ended k ps) = Pre xs (λ r. text_heading k (leaves_of (c
 Reached xs (m.parameter_next k ps) = Pre xs (λ r. text_heading k (leaves_of (trail a_parameter ps) (home_nesting k.home) r)) × (all_fit (trail a_parameter ps) ≡ true) × ok_home k.home
 Reached xs (m.header k qs) = Pre xs (text_header k qs) × (all_fit (listed qs) ≡ true) × ok_home k.home
 Reached xs (m.program ps) = Pre xs (λ r. leaves_of (tops ps) 0 r) × (all_fit (tops ps) ≡ true)
-Reached xs (m.finished ps) = Pre xs (λ r. leaves_of (tops ps) 0 (leaf (a_sign sign.End) None 0 ∷ r)) × (all_fit (tops ps) ≡ true)
+Reached xs (m.finished ps) = Pre xs (λ r. leaves_of (tops ps) 0 (leaf (a_sign sign.End) None 0 ∷ r)) × (all_fit (tops ps) ≡ true) × ((ys : Taken) × (t : Lexeme) × (xs ≡ ys ++ (t, 0) ∷ []) × (t.word ≡ a_sign sign.End))
 
 abbrev pub Stepped : Taken → Lexeme → Next → Type 0
 Stepped xs t None = Unit {0}

@@ -13,7 +13,8 @@ use Rattle.c_grammar.specs.Grammar.{about, type}
 use Rattle.c_grammar.specs.Spelling.{Stands}
 use Rattle.c_reading.specs.Parsers.{Wrong, Deep}
 use Rattle.c_parser.proofs.Asked.{place_of, type_of, joined}
-use Rattle.c_parser.proofs.Machine.{State, step, run, Outcome, Next, moved, at_end}
+use Rattle.c_parser.proofs.Machine as m
+use Rattle.c_parser.proofs.Machine.{settled, State, step, run, Outcome, Next, moved, at_end}
 use Rattle.c_parser.proofs.Trees.{at_of}
 
 abbrev pub lex : Word → At → Lexeme
@@ -35,6 +36,31 @@ starts sign.Decrement = true
 starts sign.LeftParen = true
 starts _ = false
 
+pub going : (s : State) (t : Lexeme) (n : ℕ) (s2 : State) → step s t ≡ Some (n, s2) → at_end s ≡ Err (Wrong 0)
+going (m.operand fs u) t _ s2 eq = refl
+going (m.have e fs u) t _ s2 eq = refl
+going (m.named at f fs u) t _ s2 eq = refl
+going (m.opened at fs u) t _ s2 eq = refl
+going (m.casting at ty fs u) t _ s2 eq = refl
+going (m.expect x n a) t _ s2 eq = refl
+going (m.either x n a b) t _ s2 eq = refl
+going (m.want us) t _ s2 eq = refl
+going (m.got x us) t _ s2 eq = refl
+going (m.for_first at us) t _ s2 eq = refl
+going (m.declaring at g h) t _ s2 eq = refl
+going (m.declared at g q f h) t _ s2 eq = refl
+going (m.item_named i) t _ s2 eq = refl
+going (m.item_sized i z) t _ s2 eq = refl
+going (m.item_ended at ty is h) t _ s2 eq = refl
+going (m.item_next at ty is h) t _ s2 eq = refl
+going (m.parameters_first k) t _ s2 eq = refl
+going (m.parameter_typed k ps q ty) t _ s2 eq = refl
+going (m.parameter_ended k ps) t _ s2 eq = refl
+going (m.parameter_next k ps) t _ s2 eq = refl
+going (m.header k qs) t _ s2 eq = refl
+going (m.program ps) t _ s2 eq = refl
+going (m.finished ps) t _ s2 eq = absurd cc
+
 module _ (T : ℕ → Bool) where
   -- words that meet the leaves of a tree, none of which stands deeper than the test lets it
   abbrev pub Meets : List Lexeme → List Leaf → Type 0
@@ -50,27 +76,27 @@ module _ (T : ℕ → Bool) where
 
   -- the first word goes from one state to the next
   pub took : (s s2 : State) {w : Word} {o : Option At} {n : ℕ} {r : List Leaf} (ts : List Lexeme) (v : Outcome) → ((p : At) → Stands o p → step s (lex w p) ≡ Some (n, s2)) → Met ts (leaf w o n ∷ r) → ((vs : List Lexeme) → Met vs r → run T vs s2 ≡ v) → run T ts s ≡ v
-  took s s2 [] v e m k = absurd m.meets
-  took s s2 {w} {o} {n} {r} (t ∷ ts) v e m k =
-      let same : t ≡ lex w t.at = λ i. record { word = m.meets.0 i; at = t.at } in
-      let goes : step s t ≡ Some (n, s2) = ap (λ l. step s l) same ∙ e t.at m.meets.1 in
-      ap (λ (x : Next). moved T (suc (length ts)) x (run T ts)) goes ∙ ap (λ b. cond b (run T ts s2) (Err (Deep (suc (length ts))))) m.meets.2 ∙ k ts (record { meets = m.meets.3 })
+  took s s2 [] v e mt k = absurd mt.meets
+  took s s2 {w} {o} {n} {r} (t ∷ ts) v e mt k =
+      let same : t ≡ lex w t.at = λ i. record { word = mt.meets.0 i; at = t.at } in
+      let goes : step s t ≡ Some (n, s2) = ap (λ l. step s l) same ∙ e t.at mt.meets.1 in
+      ap (λ a. settled a (moved T (suc (length ts)) (step s t) (run T ts))) (going s t n s2 goes) ∙ ap (λ (x : Next). moved T (suc (length ts)) x (run T ts)) goes ∙ ap (λ b. cond b (run T ts s2) (Err (Deep (suc (length ts))))) mt.meets.2 ∙ k ts (record { meets = mt.meets.3 })
 
   -- the same where the next state has the word's place
   pub took_any : (s : State) (s2 : At → State) {w : Word} {o : Option At} {n : ℕ} {r : List Leaf} (ts : List Lexeme) (v : Outcome) → ((p : At) → step s (lex w p) ≡ Some (n, s2 p)) → Met ts (leaf w o n ∷ r) → ((p : At) (vs : List Lexeme) → Met vs r → run T vs (s2 p) ≡ v) → run T ts s ≡ v
-  took_any s s2 [] v e m k = absurd m.meets
-  took_any s s2 {w} {o} {n} {r} (t ∷ ts) v e m k = took s (s2 t.at) {o = Some t.at} {n = n} {r = r} (t ∷ ts) v (λ p st. subst (λ q. step s (lex w q) ≡ Some (n, s2 t.at)) st (e t.at)) (record { meets = (m.meets.0, refl, m.meets.2, m.meets.3) }) (k t.at)
+  took_any s s2 [] v e mt k = absurd mt.meets
+  took_any s s2 {w} {o} {n} {r} (t ∷ ts) v e mt k = took s (s2 t.at) {o = Some t.at} {n = n} {r = r} (t ∷ ts) v (λ p st. subst (λ q. step s (lex w q) ≡ Some (n, s2 t.at)) st (e t.at)) (record { meets = (mt.meets.0, refl, mt.meets.2, mt.meets.3) }) (k t.at)
 
   -- the first word does the same to both states
-  pub skip : (s s2 : State) {ls : List Leaf} (ts : List Lexeme) → ((t : Lexeme) → starts (sign_of_word t.word) ≡ true → step s t ≡ step s2 t) → starts (head_sign ls) ≡ true → Met ts ls → run T ts s ≡ run T ts s2
-  skip s s2 {ls = []} ts e st m = absurd cc
-  skip s s2 {ls = l ∷ ls} [] e st m = absurd m.meets
-  skip s s2 {ls = l ∷ ls} (t ∷ ts) e st m = ap (λ (x : Next). moved T (suc (length ts)) x (run T ts)) (e t (ap (λ w. starts (sign_of_word w)) m.meets.0 ∙ st))
+  pub skip : (s s2 : State) → at_end s ≡ at_end s2 → {ls : List Leaf} (ts : List Lexeme) → ((t : Lexeme) → starts (sign_of_word t.word) ≡ true → step s t ≡ step s2 t) → starts (head_sign ls) ≡ true → Met ts ls → run T ts s ≡ run T ts s2
+  skip s s2 ends {ls = []} ts e st mt = absurd cc
+  skip s s2 ends {ls = l ∷ ls} [] e st mt = absurd mt.meets
+  skip s s2 ends {ls = l ∷ ls} (t ∷ ts) e st mt = (λ i. settled (ends i) (moved T (suc (length ts)) (e t (ap (λ w. starts (sign_of_word w)) mt.meets.0 ∙ st) i) (run T ts)))
 
   pub alike : (s s2 : State) (ts : List Lexeme) (r : List Leaf) → at_end s ≡ at_end s2 → ((t : Lexeme) → sign_of_word t.word ≡ head_sign r → step s t ≡ step s2 t) → Met ts r → run T ts s ≡ run T ts s2
-  alike s s2 [] r e same m = e
-  alike s s2 (t ∷ ts) [] e same m = absurd m.meets
-  alike s s2 (t ∷ ts) (l ∷ ls) e same m = ap (λ (x : Next). moved T (suc (length ts)) x (run T ts)) (same t (ap sign_of_word m.meets.0))
+  alike s s2 [] r e same mt = e
+  alike s s2 (t ∷ ts) [] e same mt = absurd mt.meets
+  alike s s2 (t ∷ ts) (l ∷ ls) e same mt = (λ i. settled (e i) (moved T (suc (length ts)) (same t (ap sign_of_word mt.meets.0) i) (run T ts)))
 
   -- ---- types
 

@@ -286,20 +286,20 @@ module _ (T : ℕ → Bool) where
   sim_eat s s2 n [] e h = e
   sim_eat s s2 n (t ∷ us) e h = ate (T n) refl
     where
-      ate : (b : Bool) → T n ≡ b → Sim (eaten n us b) (moved T (suc (length us)) (step s t) (run T us)) (λ x. s2) (λ x m us. Took n m)
-      ate true is = (ap (λ (x : Next). moved T (suc (length us)) x (run T us)) (h t us refl) ∙ ap (λ b. cond b (run T us s2) (Err (Deep (suc (length us))))) is, record { nesting = refl })
-      ate false is = ap (λ (x : Next). moved T (suc (length us)) x (run T us)) (h t us refl) ∙ ap (λ b. cond b (run T us s2) (Err (Deep (suc (length us))))) is
+      ate : (b : Bool) → T n ≡ b → Sim (eaten n us b) (m.settled (at_end s) (moved T (suc (length us)) (step s t) (run T us))) (λ x. s2) (λ x m us. Took n m)
+      ate true is = (ap (λ a. m.settled a (moved T (suc (length us)) (step s t) (run T us))) e ∙ ap (λ (x : Next). moved T (suc (length us)) x (run T us)) (h t us refl) ∙ ap (λ b. cond b (run T us s2) (Err (Deep (suc (length us))))) is, record { nesting = refl })
+      ate false is = ap (λ a. m.settled a (moved T (suc (length us)) (step s t) (run T us))) e ∙ ap (λ (x : Next). moved T (suc (length us)) x (run T us)) (h t us refl) ∙ ap (λ b. cond b (run T us s2) (Err (Deep (suc (length us))))) is
 
   pub sim_counted : (s s2 : State) (n : ℕ) (ts : List Lexeme) → at_end s ≡ Err (Wrong 0) → ((t : Lexeme) (us : List Lexeme) → ts ≡ t ∷ us → step s t ≡ Some (n, s2)) → Sim (counted T n ts) (run T ts s) (λ x. s2) (λ x m us. Took (suc n) m)
   sim_counted s s2 n ts e h = sim_then (eat T n ts) (λ x. deeper) (run T ts s) (λ x. s2) (λ x m us. Took n m) (λ x. s2) (λ x m us. Took (suc n) m) (sim_eat s s2 n ts e h) (λ x m us g. (refl, record { nesting = ap suc g.nesting }))
 
   pub sim_wrong : {A : Type 0} (s : State) (n : ℕ) (ts : List Lexeme) (k : A → State) (Q : A → ℕ → List Lexeme → Type 0) → at_end s ≡ Err (Wrong 0) → ((t : Lexeme) (us : List Lexeme) → ts ≡ t ∷ us → step s t ≡ None) → Sim (wrong n ts) (run T ts s) k Q
   sim_wrong s n [] k Q e h = e
-  sim_wrong s n (t ∷ us) k Q e h = ap (λ (x : Next). moved T (suc (length us)) x (run T us)) (h t us refl)
+  sim_wrong s n (t ∷ us) k Q e h = (λ i. m.settled (e i) (moved T (suc (length us)) (h t us refl i) (run T us)))
 
   pub same_run : (s s2 : State) (ts : List Lexeme) → at_end s ≡ at_end s2 → ((t : Lexeme) (us : List Lexeme) → ts ≡ t ∷ us → step s t ≡ step s2 t) → run T ts s ≡ run T ts s2
   same_run s s2 [] e h = e
-  same_run s s2 (t ∷ us) e h = ap (λ (x : Next). moved T (suc (length us)) x (run T us)) (h t us refl)
+  same_run s s2 (t ∷ us) e h = (λ i. m.settled (e i) (moved T (suc (length us)) (h t us refl i) (run T us)))
 
   pub sign_is : (ts : List Lexeme) (t : Lexeme) (us : List Lexeme) (s : Sign) → ts ≡ t ∷ us → sign_at ts ≡ s → sign_of_word t.word ≡ s
   unfolding sign_at

@@ -292,7 +292,7 @@ module _ (T : ℕ → Bool) where
       → all_fit (maybe x ++ the_sign close ∷ more) ≡ true → (r : List Leaf) → Goal (either close (outer u) (a None) (operand [] u)) (a x) (leaves_of (maybe x ++ the_sign close ∷ more) (outer u) r) (leaves_of more (maybe_behind (outer u) x) r)
   maybe_run None u close a more hole0 op bind none self does fits r ts v mt go = took T (either close (outer u) (a None) (operand [] u)) (a None) ts v (λ q st. ap (λ b. cond b (Some (outer u, a None)) (step (operand [] u) (lex (a_sign close) q))) self) mt go
   maybe_run (Some e) u close a more hole0 op bind none self does fits r ts v mt go =
-      skip T (either close (outer u) (a None) (operand [] u)) (operand [] u) ts (λ t st. ap (λ b. cond b (Some (outer u, a None)) (step (operand [] u) t)) (not_sign t.word close st none)) (heads e _ _) mt
+      skip T (either close (outer u) (a None) (operand [] u)) (operand [] u) refl ts (λ t st. ap (λ b. cond b (Some (outer u, a None)) (step (operand [] u) t)) (not_sign t.word close st none)) (heads e _ _) mt
       ∙ value_run e u close (a (Some e)) hole0 op bind (does e) (and_parts _ _ fits).0 _ ts v mt go
 
   maybe_fits : (x : Option Expr) (ps : List Part) → all_fit (maybe x ++ ps) ≡ true → all_fit ps ≡ true
@@ -331,7 +331,7 @@ module _ (T : ℕ → Bool) where
       let f0 : (is_at at (about e).at && ((about e).fits && true)) ≡ true = subst (λ (s : Said). s.fits ≡ true) (told_evaluate at (Some e)) fits in
       let p = and_parts (is_at at (about e).at) _ f0 in
       subst (λ s. Claims (tree_.Evaluate at (Some e)) s) (sym (told_evaluate at (Some e))) (from_all _ _ (omega arith)
-      (λ us r l ts v mt go. skip T (want us) (operand [] (m.evaluate us)) ts (wanted_value us) (heads e _ _) mt
+      (λ us r l ts v mt go. skip T (want us) (operand [] (m.evaluate us)) refl ts (wanted_value us) (heads e _ _) mt
         ∙ value_run e (m.evaluate us) sign.Semicolon (got (tree_.Evaluate (place_of e) (Some e)) us) refl refl refl refl (and_parts (about e).fits _ p.1).0 r ts v mt
           (λ vs mv. ap (λ z. run T vs (got (tree_.Evaluate z (Some e)) us)) (sym (placed at e p.0)) ∙ go vs mv)))
 
@@ -411,7 +411,7 @@ module _ (T : ℕ → Bool) where
       → Goal (m.for_first at us) (for_test at b us) (leaves_of (started b ++ more) (suc (inside us)) r) (leaves_of more (start_behind (suc (inside us)) b) r)
   started_run at us start.Absent more fits r ts v mt go = took T (m.for_first at us) (for_test at start.Absent us) ts v (λ q st. refl) mt go
   started_run at us (start.Value e) more fits r ts v mt go =
-      skip T (m.for_first at us) (operand [] (m.start_ at us)) ts (λ t st. first_value t (sign_of_word t.word) st) (heads e _ _) mt
+      skip T (m.for_first at us) (operand [] (m.start_ at us)) refl ts (λ t st. first_value t (sign_of_word t.word) st) (heads e _ _) mt
       ∙ value_run e (m.start_ at us) sign.Semicolon (for_test at (start.Value e) us) refl refl refl refl (and_parts _ _ fits).0 _ ts v mt go
     where
       first_value : (t : Lexeme) (s : Sign) → starts s ≡ true → m.on_first t.at t.word s at us ≡ m.on_operand t.at t.word [] (m.start_ at us)

@@ -331,7 +331,7 @@ module _ (xs : Taken) (t : Lexeme) where
 
   program_reached : (ps : List External) (s : Sign) → sign_of_word t.word ≡ s → Reached xs (m.program ps) → Stepped xs t (m.on_program t.at s ps)
   program_reached ps sign.Include w p = (some_at xs t _ (λ r. leaves_of (tops (ps ++ external.Include t.at ∷ [])) 0 r) sign.Include _ w refl p.0 (λ r. tops_snoc ps (external.Include t.at) r), tops_fit ps (external.Include t.at) p.1 refl)
-  program_reached ps sign.End w p = (none_at xs t _ _ sign.End _ w refl p.0 (λ r. refl), p.1)
+  program_reached ps sign.End w p = (none_at xs t _ _ sign.End _ w refl p.0 (λ r. refl), p.1, (xs, t, refl, word_is t.word sign.End w refl))
   program_reached ps s w p = declaration_reached s (type_of s) (m.at_top ps) None w refl p.0 p.1 tt
 
   -- ---- each step

@@ -1,5 +1,5 @@
 -- Whole lists of tokens.
-use Rattle.std.proofs.Common.{◌≡◌, ℕ, zero, suc, ◌+◌, ◌<◌, ◌≤◌, Bool, true, false, cond, nat_le, ◌&&◌, List, [], ◌∷◌, ◌++◌, length, map, Option, Some, None, Ok, Err, Result, refl, sym, ap, subst, ◌∙◌, append_assoc, arith}
+use Rattle.std.proofs.Common.{◌⊎◌, inl, inr, ◌≡◌, ℕ, zero, suc, ◌+◌, ◌<◌, ◌≤◌, Bool, true, false, cond, nat_le, ◌&&◌, List, [], ◌∷◌, ◌++◌, length, map, Option, Some, None, Ok, Err, Result, refl, sym, ap, subst, ◌∙◌, append_assoc, arith}
 use Rattle.std.specs.Prelude.{All}
 use Rattle.std.proofs.lemmas.List.{append-nil}
 use Rattle.std.proofs.lemmas.List.Elements.{All-cons}
@@ -26,7 +26,7 @@ use Rattle.c_tree.specs.declared.syntax.Statement.{Statement}
 use Rattle.c_tree.specs.declared.syntax.Statement.TheVariants as tree_
 use Rattle.c_parser.proofs.Asked.{joined}
 use Rattle.c_parser.proofs.Machine.{Frame, Use, Under, fill, offer, close_use, State, step, run, Outcome, Next, moved, at_end}
-use Rattle.c_parser.proofs.Runs.{Meets, Met, lex}
+use Rattle.c_parser.proofs.Runs.{Meets, Met, lex, going}
 use Rattle.c_parser.proofs.StatComplete.{complete_program}
 use Rattle.c_parser.proofs.Reached.{Taken, Spelt, Pre, Reached, Stepped}
 use Rattle.c_parser.proofs.StatSteps.{stepped}
@@ -200,7 +200,7 @@ at_first = record { reached = (record { leaves = []; is = λ r. refl; spells = t
 pub one_more : (xs : Taken) (s : State) (t : Lexeme) (n : ℕ) (s2 : State) → Reaches xs s → step s t ≡ Some (n, s2) → Reaches (xs ++ (t, n) ∷ []) s2
 one_more xs s t n s2 r e = record {
   reached = let p : Stepped xs t (Some (n, s2)) = subst (λ x. Stepped xs t x) e (stepped xs t s r.reached) in p;
-  goes = λ rest. ap (λ l. run all l (m.program [])) (tokens_snoc xs (t, n) rest) ∙ r.goes (t ∷ rest) ∙ ap (λ x. moved all (suc (length rest)) x (run all rest)) e;
+  goes = λ rest. ap (λ l. run all l (m.program [])) (tokens_snoc xs (t, n) rest) ∙ r.goes (t ∷ rest) ∙ (λ i. m.settled (going s t n s2 e i) (moved all (suc (length rest)) (e i) (run all rest)));
   ends = λ w. ended_step s t n s2 e (sym (last_snoc xs (t, n)) ∙ w);
 }
 
@@ -218,7 +218,8 @@ Stops s (t ∷ rest) = step s t ≡ None
 
 pub record All_read (us : List Lexeme) (ps : List External) : Type 0 where
   pub taken : Taken
-  pub tokens : us ≡ tokens_of taken
+  pub back : List Lexeme
+  pub tokens : us ≡ tokens_of taken ++ back
   pub low : Low taken
   pub reached : Reached taken (m.finished ps)
 
@@ -231,6 +232,7 @@ pub record Stuck (us : List Lexeme) (j : ℕ) : Type 0 where
   pub state : State
   pub reaches : Reaches taken state
   pub stops : Stops state back
+  pub unended : at_end state ≡ Err (Wrong 0)
 
 pub record Sunk (us : List Lexeme) (j : ℕ) : Type 0 where
   pub taken : Taken
@@ -252,47 +254,76 @@ Ran us (Err Out) = Unit {0}
 
 -- where no word is left
 ran_end : (us : List Lexeme) (xs : Taken) (s : State) → us ≡ tokens_of xs ++ [] → Low xs → Reaches xs s → Ran us (at_end s)
-ran_end us xs (m.finished ps) e l r = record { taken = xs; tokens = e ∙ append-nil (tokens_of xs); low = l; reached = r.reached }
-ran_end us xs (m.operand fs u) e l r = record { taken = xs; back = []; split = e; left = refl; low = l; state = m.operand fs u; reaches = r; stops = refl }
-ran_end us xs (m.have x fs u) e l r = record { taken = xs; back = []; split = e; left = refl; low = l; state = m.have x fs u; reaches = r; stops = refl }
-ran_end us xs (m.named at n fs u) e l r = record { taken = xs; back = []; split = e; left = refl; low = l; state = m.named at n fs u; reaches = r; stops = refl }
-ran_end us xs (m.opened at fs u) e l r = record { taken = xs; back = []; split = e; left = refl; low = l; state = m.opened at fs u; reaches = r; stops = refl }
-ran_end us xs (m.casting at t fs u) e l r = record { taken = xs; back = []; split = e; left = refl; low = l; state = m.casting at t fs u; reaches = r; stops = refl }
-ran_end us xs (m.expect x n a) e l r = record { taken = xs; back = []; split = e; left = refl; low = l; state = m.expect x n a; reaches = r; stops = refl }
-ran_end us xs (m.either x n a b) e l r = record { taken = xs; back = []; split = e; left = refl; low = l; state = m.either x n a b; reaches = r; stops = refl }
-ran_end us xs (m.want vs) e l r = record { taken = xs; back = []; split = e; left = refl; low = l; state = m.want vs; reaches = r; stops = refl }
-ran_end us xs (m.got x vs) e l r = record { taken = xs; back = []; split = e; left = refl; low = l; state = m.got x vs; reaches = r; stops = refl }
-ran_end us xs (m.for_first at vs) e l r = record { taken = xs; back = []; split = e; left = refl; low = l; state = m.for_first at vs; reaches = r; stops = refl }
-ran_end us xs (m.declaring at g h) e l r = record { taken = xs; back = []; split = e; left = refl; low = l; state = m.declaring at g h; reaches = r; stops = refl }
-ran_end us xs (m.declared at g q n h) e l r = record { taken = xs; back = []; split = e; left = refl; low = l; state = m.declared at g q n h; reaches = r; stops = refl }
-ran_end us xs (m.item_named i) e l r = record { taken = xs; back = []; split = e; left = refl; low = l; state = m.item_named i; reaches = r; stops = refl }
-ran_end us xs (m.item_sized i z) e l r = record { taken = xs; back = []; split = e; left = refl; low = l; state = m.item_sized i z; reaches = r; stops = refl }
-ran_end us xs (m.item_ended at t is h) e l r = record { taken = xs; back = []; split = e; left = refl; low = l; state = m.item_ended at t is h; reaches = r; stops = refl }
-ran_end us xs (m.item_next at t is h) e l r = record { taken = xs; back = []; split = e; left = refl; low = l; state = m.item_next at t is h; reaches = r; stops = refl }
-ran_end us xs (m.parameters_first k) e l r = record { taken = xs; back = []; split = e; left = refl; low = l; state = m.parameters_first k; reaches = r; stops = refl }
-ran_end us xs (m.parameter_typed k ps q t) e l r = record { taken = xs; back = []; split = e; left = refl; low = l; state = m.parameter_typed k ps q t; reaches = r; stops = refl }
-ran_end us xs (m.parameter_ended k ps) e l r = record { taken = xs; back = []; split = e; left = refl; low = l; state = m.parameter_ended k ps; reaches = r; stops = refl }
-ran_end us xs (m.parameter_next k ps) e l r = record { taken = xs; back = []; split = e; left = refl; low = l; state = m.parameter_next k ps; reaches = r; stops = refl }
-ran_end us xs (m.header k qs) e l r = record { taken = xs; back = []; split = e; left = refl; low = l; state = m.header k qs; reaches = r; stops = refl }
-ran_end us xs (m.program ps) e l r = record { taken = xs; back = []; split = e; left = refl; low = l; state = m.program ps; reaches = r; stops = refl }
+ran_end us xs (m.finished ps) e l r = record { taken = xs; back = []; tokens = e; low = l; reached = r.reached }
+ran_end us xs (m.operand fs u) e l r = record { taken = xs; back = []; split = e; left = refl; low = l; state = m.operand fs u; reaches = r; stops = refl; unended = refl }
+ran_end us xs (m.have x fs u) e l r = record { taken = xs; back = []; split = e; left = refl; low = l; state = m.have x fs u; reaches = r; stops = refl; unended = refl }
+ran_end us xs (m.named at n fs u) e l r = record { taken = xs; back = []; split = e; left = refl; low = l; state = m.named at n fs u; reaches = r; stops = refl; unended = refl }
+ran_end us xs (m.opened at fs u) e l r = record { taken = xs; back = []; split = e; left = refl; low = l; state = m.opened at fs u; reaches = r; stops = refl; unended = refl }
+ran_end us xs (m.casting at t fs u) e l r = record { taken = xs; back = []; split = e; left = refl; low = l; state = m.casting at t fs u; reaches = r; stops = refl; unended = refl }
+ran_end us xs (m.expect x n a) e l r = record { taken = xs; back = []; split = e; left = refl; low = l; state = m.expect x n a; reaches = r; stops = refl; unended = refl }
+ran_end us xs (m.either x n a b) e l r = record { taken = xs; back = []; split = e; left = refl; low = l; state = m.either x n a b; reaches = r; stops = refl; unended = refl }
+ran_end us xs (m.want vs) e l r = record { taken = xs; back = []; split = e; left = refl; low = l; state = m.want vs; reaches = r; stops = refl; unended = refl }
+ran_end us xs (m.got x vs) e l r = record { taken = xs; back = []; split = e; left = refl; low = l; state = m.got x vs; reaches = r; stops = refl; unended = refl }
+ran_end us xs (m.for_first at vs) e l r = record { taken = xs; back = []; split = e; left = refl; low = l; state = m.for_first at vs; reaches = r; stops = refl; unended = refl }
+ran_end us xs (m.declaring at g h) e l r = record { taken = xs; back = []; split = e; left = refl; low = l; state = m.declaring at g h; reaches = r; stops = refl; unended = refl }
+ran_end us xs (m.declared at g q n h) e l r = record { taken = xs; back = []; split = e; left = refl; low = l; state = m.declared at g q n h; reaches = r; stops = refl; unended = refl }
+ran_end us xs (m.item_named i) e l r = record { taken = xs; back = []; split = e; left = refl; low = l; state = m.item_named i; reaches = r; stops = refl; unended = refl }
+ran_end us xs (m.item_sized i z) e l r = record { taken = xs; back = []; split = e; left = refl; low = l; state = m.item_sized i z; reaches = r; stops = refl; unended = refl }
+ran_end us xs (m.item_ended at t is h) e l r = record { taken = xs; back = []; split = e; left = refl; low = l; state = m.item_ended at t is h; reaches = r; stops = refl; unended = refl }
+ran_end us xs (m.item_next at t is h) e l r = record { taken = xs; back = []; split = e; left = refl; low = l; state = m.item_next at t is h; reaches = r; stops = refl; unended = refl }
+ran_end us xs (m.parameters_first k) e l r = record { taken = xs; back = []; split = e; left = refl; low = l; state = m.parameters_first k; reaches = r; stops = refl; unended = refl }
+ran_end us xs (m.parameter_typed k ps q t) e l r = record { taken = xs; back = []; split = e; left = refl; low = l; state = m.parameter_typed k ps q t; reaches = r; stops = refl; unended = refl }
+ran_end us xs (m.parameter_ended k ps) e l r = record { taken = xs; back = []; split = e; left = refl; low = l; state = m.parameter_ended k ps; reaches = r; stops = refl; unended = refl }
+ran_end us xs (m.parameter_next k ps) e l r = record { taken = xs; back = []; split = e; left = refl; low = l; state = m.parameter_next k ps; reaches = r; stops = refl; unended = refl }
+ran_end us xs (m.header k qs) e l r = record { taken = xs; back = []; split = e; left = refl; low = l; state = m.header k qs; reaches = r; stops = refl; unended = refl }
+ran_end us xs (m.program ps) e l r = record { taken = xs; back = []; split = e; left = refl; low = l; state = m.program ps; reaches = r; stops = refl; unended = refl }
 
 abbrev by_depth : Bool → ℕ → Outcome → Outcome
 by_depth b n v = cond b v (Err (Deep n))
 
-pub ran_step : (ts us : List Lexeme) (xs : Taken) (s : State) (t : Lexeme) → us ≡ tokens_of xs ++ t ∷ ts → Low xs → Reaches xs s → ((n : ℕ) (s2 : State) → step s t ≡ Some (n, s2) → n ≤ 200 → Ran us (run shallow ts s2)) → Ran us (moved shallow (suc (length ts)) (step s t) (run shallow ts))
-ran_step ts us xs s t e l r more = onward (step s t) refl
+pub ran_step : (ts us : List Lexeme) (xs : Taken) (s : State) (t : Lexeme) → at_end s ≡ Err (Wrong 0) → us ≡ tokens_of xs ++ t ∷ ts → Low xs → Reaches xs s → ((n : ℕ) (s2 : State) → step s t ≡ Some (n, s2) → n ≤ 200 → Ran us (run shallow ts s2)) → Ran us (moved shallow (suc (length ts)) (step s t) (run shallow ts))
+ran_step ts us xs s t un e l r more = onward (step s t) refl
   where
     deep : (n : ℕ) (s2 : State) → step s t ≡ Some (n, s2) → (b : Bool) → shallow n ≡ b → Ran us (by_depth b (suc (length ts)) (run shallow ts s2))
     deep n s2 is true h = more n s2 is (leb-true n 200 h)
     deep n s2 is false h = record { taken = xs; token = t; nesting = n; back = ts; split = e; left = refl; low = l; passes = leb-false n 200 h; state = s2; reached = (one_more xs s t n s2 r is).reached }
 
     onward : (x : Next) → step s t ≡ x → Ran us (moved shallow (suc (length ts)) x (run shallow ts))
-    onward None is = record { taken = xs; back = t ∷ ts; split = e; left = refl; low = l; state = s; reaches = r; stops = is }
+    onward None is = record { taken = xs; back = t ∷ ts; split = e; left = refl; low = l; state = s; reaches = r; stops = is; unended = un }
     onward (Some x) is = deep x.0 x.1 is (shallow x.0) refl
+
+ending : (s : State) → ((ps : List External) × (s ≡ m.finished ps)) ⊎ (at_end s ≡ Err (Wrong 0))
+ending (m.operand fs u) = inr refl
+ending (m.have e fs u) = inr refl
+ending (m.named at f fs u) = inr refl
+ending (m.opened at fs u) = inr refl
+ending (m.casting at ty fs u) = inr refl
+ending (m.expect x n a) = inr refl
+ending (m.either x n a b) = inr refl
+ending (m.want us) = inr refl
+ending (m.got x us) = inr refl
+ending (m.for_first at us) = inr refl
+ending (m.declaring at g h) = inr refl
+ending (m.declared at g q f h) = inr refl
+ending (m.item_named i) = inr refl
+ending (m.item_sized i z) = inr refl
+ending (m.item_ended at ty is h) = inr refl
+ending (m.item_next at ty is h) = inr refl
+ending (m.parameters_first k) = inr refl
+ending (m.parameter_typed k ps q ty) = inr refl
+ending (m.parameter_ended k ps) = inr refl
+ending (m.parameter_next k ps) = inr refl
+ending (m.header k qs) = inr refl
+ending (m.program ps) = inr refl
+ending (m.finished ps) = inl (ps, refl)
+
+ran_on : (ts us : List Lexeme) (xs : Taken) (s : State) (t : Lexeme) → us ≡ tokens_of xs ++ t ∷ ts → Low xs → Reaches xs s → ((ps : List External) × (s ≡ m.finished ps)) ⊎ (at_end s ≡ Err (Wrong 0)) → ((n : ℕ) (s2 : State) → step s t ≡ Some (n, s2) → n ≤ 200 → Ran us (run shallow ts s2)) → Ran us (run shallow (t ∷ ts) s)
+ran_on ts us xs s t e l r (inl f) more = subst (λ z. Ran us (run shallow (t ∷ ts) z)) (sym f.1) (let q : Reaches xs (m.finished f.0) = subst (λ z. Reaches xs z) f.1 r in record { taken = xs; back = t ∷ ts; tokens = e; low = l; reached = q.reached })
+ran_on ts us xs s t e l r (inr un) more = subst (λ a. Ran us (m.settled a (moved shallow (suc (length ts)) (step s t) (run shallow ts)))) (sym un) (ran_step ts us xs s t un e l r more)
 
 pub ran : (ts us : List Lexeme) (xs : Taken) (s : State) → us ≡ tokens_of xs ++ ts → Low xs → Reaches xs s → Ran us (run shallow ts s)
 ran [] us xs s e l r = ran_end us xs s e l r
-ran (t ∷ ts) us xs s e l r = ran_step ts us xs s t e l r (λ n s2 is h. ran ts us (xs ++ (t, n) ∷ []) s2 (e ∙ sym (tokens_snoc xs (t, n) ts)) (low_snoc xs (t, n) l h) (one_more xs s t n s2 r is))
+ran (t ∷ ts) us xs s e l r = ran_on ts us xs s t e l r (ending s) (λ n s2 is h. ran ts us (xs ++ (t, n) ∷ []) s2 (e ∙ sym (tokens_snoc xs (t, n) ts)) (low_snoc xs (t, n) l h) (one_more xs s t n s2 r is))
 
 -- ---- the outcomes
 
@@ -308,12 +339,30 @@ shallow_of [] (k ∷ ls) l s = absurd s
 shallow_of (x ∷ xs) [] l s = absurd s
 shallow_of (x ∷ xs) (k ∷ ls) l s = All-cons (λ y. y.nesting ≤ 200) k ls (omega (arith, l.0, s.2)) (shallow_of xs ls l.1 s.3)
 
-pub read_spelled : (us : List Lexeme) (ps : List External) → All_read us ps → Spelled us (record { parts = ps })
-read_spelled us ps r =
+-- a word that stands before others is in the body
+in_body : (P : Lexeme → Type 0) (a body : List Lexeme) (t b e : Lexeme) (bs : List Lexeme) → a ++ t ∷ b ∷ bs ≡ body ++ e ∷ [] → All P body → P t
+in_body P [] [] t b e bs h k = absurd cc
+in_body P [] (x ∷ body) t b e bs h k = let f : x ≡ t = cc in subst P f (k 0 x (omega arith))
+in_body P (x ∷ a) [] t b e bs h k = absurd (no_more a cc)
+  where
+    no_more : (a : List Lexeme) → a ++ t ∷ b ∷ bs ≡ [] → ⊥
+    no_more [] h = absurd cc
+    no_more (y ∷ a) h = absurd cc
+in_body P (x ∷ a) (y ∷ body) t b e bs h k = let f : a ++ t ∷ b ∷ bs ≡ body ++ e ∷ [] = cc in in_body P a body t b e bs f (λ i d lt. k (suc i) d (omega (arith, lt)))
+
+nothing_behind : (us : List Lexeme) (ps : List External) (r : All_read us ps) → Ended us → (back : List Lexeme) → r.back ≡ back → us ≡ tokens_of r.taken
+nothing_behind us ps r en [] e = r.tokens ∙ ap (λ l. tokens_of r.taken ++ l) e ∙ append-nil (tokens_of r.taken)
+nothing_behind us ps r en (b ∷ bs) e =
+    let f = r.reached.2 in
+    let whole : tokens_of f.0 ++ f.1 ∷ b ∷ bs ≡ en.body ++ lex (a_sign sign.End) en.at ∷ [] = sym (tokens_snoc f.0 (f.1, 0) (b ∷ bs)) ∙ ap (λ l. tokens_of l ++ b ∷ bs) (sym f.2) ∙ ap (λ l. tokens_of r.taken ++ l) (sym e) ∙ sym r.tokens ∙ en.is in
+    absurd (in_body (λ t. t.word ≡ a_sign sign.End → ⊥) (tokens_of f.0) en.body f.1 b (lex (a_sign sign.End) en.at) bs whole en.none f.3)
+
+pub read_spelled : (us : List Lexeme) (ps : List External) → Ended us → All_read us ps → Spelled us (record { parts = ps })
+read_spelled us ps en r =
     let p = r.reached in
     let text : leaves_of_program (record { parts = ps }) ≡ p.0.leaves = each_end ps [] ∙ p.0.is [] ∙ append-nil p.0.leaves in
     record {
-      text = subst (λ l. Spells us l) (sym text) (subst (λ l. Spells l p.0.leaves) (sym r.tokens) (spells_of r.taken p.0.leaves p.0.spells));
+      text = subst (λ l. Spells us l) (sym text) (subst (λ l. Spells l p.0.leaves) (sym (nothing_behind us ps r en r.back refl)) (spells_of r.taken p.0.leaves p.0.spells));
       fits = fit_append (tops ps) (the_sign sign.End ∷ []) p.1 refl;
       shallow = subst (λ l. Shallow l) (sym text) (shallow_of r.taken p.0.leaves r.low p.0.spells);
     }
@@ -348,12 +397,12 @@ spells_append (t ∷ ts) us [] ks s r = absurd s
 spells_append (t ∷ ts) us (l ∷ ls) ks s r = (s.0, s.1, spells_append ts us ls ks s.2 r)
 
 -- no program begins with a word that the machine refuses
-refused : (xs : Taken) (s : State) (t : Lexeme) → Reaches xs s → step s t ≡ None → (leaves : List Leaf) → Begins (tokens_of xs ++ t ∷ []) leaves → ⊥
-refused xs s t r e leaves b =
+refused : (xs : Taken) (s : State) (t : Lexeme) → Reaches xs s → at_end s ≡ Err (Wrong 0) → step s t ≡ None → (leaves : List Leaf) → Begins (tokens_of xs ++ t ∷ []) leaves → ⊥
+refused xs s t r un e leaves b =
     let full : List Lexeme = (tokens_of xs ++ t ∷ []) ++ made b.rest in
     let sp : Spells full (leaves_of_program b.tree) = subst (λ l. Spells full l) (sym b.split) (spells_append (tokens_of xs ++ t ∷ []) (made b.rest) leaves b.rest b.spelled (made_spells b.rest)) in
     let good : run all full (m.program []) ≡ okay b.tree.parts = accepts b.tree full b.fits sp in
-    let bad : run all full (m.program []) ≡ Err (Wrong (suc (length (made b.rest)))) = ap (λ l. run all l (m.program [])) (append_assoc (tokens_of xs) (t ∷ []) (made b.rest)) ∙ r.goes (t ∷ made b.rest) ∙ ap (λ x. moved all (suc (length (made b.rest))) x (run all (made b.rest))) e in
+    let bad : run all full (m.program []) ≡ Err (Wrong (suc (length (made b.rest)))) = ap (λ l. run all l (m.program [])) (append_assoc (tokens_of xs) (t ∷ []) (made b.rest)) ∙ r.goes (t ∷ made b.rest) ∙ (λ i. m.settled (un i) (moved all (suc (length (made b.rest))) (e i) (run all (made b.rest)))) in
     apart b.tree.parts (suc (length (made b.rest))) (sym good ∙ bad)
   where
     apart : (ps : List External) (n : ℕ) → okay ps ≡ Err (Wrong n) → ⊥
@@ -372,7 +421,7 @@ stuck_at us j k t rest e =
       leaves = d.leaves;
       goes = begun k.taken d;
       shallow = shallow_of k.taken d.leaves k.low d.spells;
-      stops = refused k.taken k.state t k.reaches refuses;
+      stops = refused k.taken k.state t k.reaches k.unended refuses;
     }
 
 last_is_end : (xs : Taken) (body : List Lexeme) (t : Lexeme) → tokens_of xs ≡ body ++ t ∷ [] → last_word xs ≡ t.word

@@ -30,7 +30,7 @@ fn reason(tokens: &[Token], left: usize, rule: u8) -> Reason
 /// The tree that tokens spell (C11 6.5 to 6.9). Tokens without one are refused at the first token
 /// that continues no program, or that stands deeper than 200.
 pub fn parse(alloc: Global, tokens: &Vec<Token>) -> Result<Syntax, CFault>
-    requires ended { Ended (lexemes tokens.now.items) }
+    requires { Ended (lexemes tokens.now.items) }
     ensures found { IfOk result (λ tree. Spelled (lexemes tokens.now.items) tree) }
     ensures only { (tree : SyntaxTree) → Spelled (lexemes tokens.now.items) tree → Finds tree result }
     ensures refused { IfErr result (Refuses (lexemes tokens.now.items)) }

@@ -1,5 +1,5 @@
 -- The reading of declarations (C11 6.7), for those that the grammar has.
-use Rattle.std.specs.Prelude.{ℕ, zero, suc, Bool, true, false, if◌then◌else◌, List, [], ◌∷◌, ◌++◌}
+use Rattle.std.specs.Prelude.{ℕ, zero, suc, Bool, true, false, if◌then◌else◌, List, [], ◌∷◌, ◌++◌, Option, Some, None}
 use Rattle.c_tree.specs.declared.token.At.{At}
 use Rattle.c_tree.specs.declared.syntax.Expr.{Expr}
 use Rattle.c_tree.specs.declared.syntax.TypeWords.{TypeWords}
@@ -40,20 +40,30 @@ module _ (T : ℕ → Bool) where
       s ← peek
       if same s sign.LeftBracket then eat T >> given_size else pure size_.Scalar
 
-  -- a value in braces, and whether a comma stands behind it
-  unfoldable pub next_value : ℕ → Parser (Expr × Bool)
+  -- behind a value in braces: where it is the last one, whether a comma stands behind it
+  unfoldable pub value_end : Parser (Option Bool)
+  value_end = do
+    goes_on ← more T sign.RightBrace
+    s ← peek
+    if goes_on then (if same s sign.RightBrace then eat T >> pure (Some true) else pure None) else pure (Some false)
+
+  unfoldable pub next_value : ℕ → Parser (Expr × Option Bool)
   next_value d = do
     x ← read T d assign
-    goes_on ← more T sign.RightBrace
-    pure (x, goes_on)
+    end ← value_end
+    pure (x, end)
 
-  -- the values in braces behind those that were read; a comma may stand behind the last one
+  -- the list that ends here, or what goes on
+  abbrev pub listed : List Expr → Parser Initialiser → Option Bool → Parser Initialiser
+  listed es p None = p
+  listed es p (Some comma) = pure (initialiser_.List es comma)
+
+  -- the values in braces behind those that were read
   unfoldable pub values : ℕ → List Expr → Parser Initialiser
   values zero es = out
   values (suc d) es = do
     x ← next_value d
-    s ← peek
-    if x.1 then (if same s sign.RightBrace then eat T >> pure (initialiser_.List (es ++ x.0 ∷ []) true) else values d (es ++ x.0 ∷ [])) else pure (initialiser_.List (es ++ x.0 ∷ []) false)
+    listed (es ++ x.0 ∷ []) (values d (es ++ x.0 ∷ [])) x.1
 
   abbrev pub value_by : ℕ → Sign → Parser Initialiser
   value_by d sign.LeftBrace = eat T >> values d []

@@ -62,20 +62,34 @@ fn size(
     }
 }
 
-/// A value in braces, and whether a comma stands behind it.
+/// Behind a value in braces: where it is the last one, whether a comma stands behind it.
+#[tactic(auto, unfolding(crate::specs::Declarations::value_end))]
+fn value_end(nesting: u32, tokens: &[Token]) -> Result<(Option<bool>, &[Token]), Fault>
+    ensures reads { ReadsAt nesting (spec.value_end shallow nesting (lexemes tokens.now)) result }
+{
+    let (goes_on, tokens) = more(Sign::RightBrace, nesting, tokens)?;
+    if !goes_on {
+        Ok((Some(false), tokens))
+    } else if peek(tokens) == Sign::RightBrace {
+        Ok((Some(true), eat(nesting, tokens)?))
+    } else {
+        Ok((None, tokens))
+    }
+}
+
 #[tactic(auto, unfolding(crate::specs::Declarations::next_value))]
 fn next_value(
     alloc: Global,
     depth: usize,
     nesting: u32,
     tokens: &[Token],
-) -> Result<((Expr, bool), &[Token]), Fault>
+) -> Result<((Expr, Option<bool>), &[Token]), Fault>
     requires { nesting ≤ 200 }
     ensures reads { ReadsAt nesting (spec.next_value shallow depth nesting (lexemes tokens.now)) result }
 {
     let (e, tokens) = assignment(alloc, depth, nesting, tokens)?;
-    let (goes_on, tokens) = more(Sign::RightBrace, nesting, tokens)?;
-    Ok(((e, goes_on), tokens))
+    let (end, tokens) = value_end(nesting, tokens)?;
+    Ok(((e, end), tokens))
 }
 
 /// The values in braces, behind the opening one.
@@ -93,14 +107,10 @@ fn values(
     let mut rest = tokens;
     while depth > 0 {
         depth -= 1;
-        let ((e, goes_on), behind) = next_value(alloc, depth, nesting, rest)?;
+        let ((e, end), behind) = next_value(alloc, depth, nesting, rest)?;
         values.push(e)?;
-        if !goes_on {
-            return Ok((Initialiser::List(values, false), behind));
-        }
-        if peek(behind) == Sign::RightBrace {
-            let behind = eat(nesting, behind)?;
-            return Ok((Initialiser::List(values, true), behind));
+        if let Some(comma) = end {
+            return Ok((Initialiser::List(values, comma), behind));
         }
         rest = behind;
     }

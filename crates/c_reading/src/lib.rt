@@ -5,5 +5,7 @@ mod declarations;
 mod expressions;
 mod fault;
 mod nodes;
+mod program;
+mod statements;
 mod tokens;
 mod trees;

@@ -201,12 +201,17 @@ module _ (T : ℕ → Bool) where
         x ← declaration T d
         pure (statement_.Declared x)) else S.one
 
-    abbrev pub block_rest : List Statement → Parser (List Statement)
-    block_rest ss = do
+    -- the next part of a block, if it hasn't ended
+    unfoldable pub next_item : Parser (Option Statement)
+    next_item = do
       s ← peek
-      if same s sign.RightBrace then eat T >> pure ss else (do
+      if same s sign.RightBrace then eat T >> pure None else (do
         x ← block_item
-        S.rest (ss ++ x ∷ []))
+        pure (Some x))
+
+    abbrev pub continued : List Statement → Option Statement → Parser (List Statement)
+    continued ss None = pure ss
+    continued ss (Some x) = S.rest (ss ++ x ∷ [])
 
     abbrev pub statements_step : Statements
     statements_step = record {
@@ -214,7 +219,7 @@ module _ (T : ℕ → Bool) where
         at ← place
         s ← peek
         statement_by at s);
-      rest = block_rest;
+      rest = λ ss. next_item >>= continued ss;
     }
 
   -- the statements with calls at most so deep
@@ -249,14 +254,22 @@ module _ (T : ℕ → Bool) where
     s ← peek
     external_by d at s
 
+  -- the next part of a program, if it hasn't ended
+  unfoldable pub next_part : ℕ → Parser (Option External)
+  next_part d = do
+    s ← peek
+    if same s sign.End then pure None else (do
+      x ← external d
+      pure (Some x))
+
+  abbrev pub joined : List External → (List External → Parser (List External)) → Option External → Parser (List External)
+  joined xs goes_on None = pure xs
+  joined xs goes_on (Some x) = goes_on (xs ++ x ∷ [])
+
   -- the parts of a program behind those that were read, up to the end
   unfoldable pub parts : ℕ → List External → Parser (List External)
   parts zero xs = out
-  parts (suc d) xs = do
-    s ← peek
-    if same s sign.End then pure xs else (do
-      x ← external d
-      parts d (xs ++ x ∷ []))
+  parts (suc d) xs = next_part d >>= joined xs (parts d)
 
   abbrev pub program : ℕ → List Lexeme → Read (List External)
   program d ts = parts d [] 0 ts

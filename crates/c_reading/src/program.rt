@@ -70,6 +70,24 @@ fn external(
     }
 }
 
+/// The next part of a program, if it has not ended.
+#[tactic(auto, unfolding(crate::specs::Statements::next_part))]
+fn next_part(
+    alloc: Global,
+    depth: usize,
+    nesting: u32,
+    tokens: &[Token],
+) -> Result<(Option<External>, &[Token]), Fault>
+    requires { nesting ≤ 200 }
+    ensures reads { ReadsAt nesting (spec.next_part shallow depth nesting (lexemes tokens.now)) result }
+{
+    if peek(tokens) == Sign::End {
+        return Ok((None, tokens));
+    }
+    let (part, tokens) = external(alloc, depth, nesting, tokens)?;
+    Ok((Some(part), tokens))
+}
+
 /// The parts of a program, and the tokens from the end on.
 #[tactic(auto, unfolding(crate::specs::Statements::parts))]
 pub fn parts(
@@ -85,10 +103,10 @@ pub fn parts(
     let mut rest = tokens;
     while depth > 0 {
         depth -= 1;
-        if peek(rest) == Sign::End {
-            return Ok((parts, rest));
-        }
-        let (part, behind) = external(alloc, depth, nesting, rest)?;
+        let (part, behind) = next_part(alloc, depth, nesting, rest)?;
+        let Some(part) = part else {
+            return Ok((parts, behind));
+        };
         parts.push(part)?;
         rest = behind;
     }

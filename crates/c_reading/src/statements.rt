@@ -455,6 +455,25 @@ fn block_item(
     statement(alloc, depth, nesting, tokens)
 }
 
+/// The next part of a block, if it has not ended.
+#[tactic(auto, unfolding(crate::specs::Statements::next_item))]
+#[cycle(statements)]
+fn next_item(
+    alloc: Global,
+    depth: usize,
+    nesting: u32,
+    tokens: &[Token],
+) -> Result<(Option<Statement>, &[Token]), Fault>
+    requires { nesting ≤ 200 }
+    ensures reads { ReadsAt nesting (spec.next_item shallow depth (spec.statements shallow depth) nesting (lexemes tokens.now)) result }
+{
+    if peek(tokens) == Sign::RightBrace {
+        return Ok((None, eat(nesting, tokens)?));
+    }
+    let (item, tokens) = block_item(alloc, depth, nesting, tokens)?;
+    Ok((Some(item), tokens))
+}
+
 /// The statements of a block, behind its opening brace.
 #[cycle(statements)]
 fn statements(
@@ -470,11 +489,11 @@ fn statements(
     let mut rest = tokens;
     while depth > 0 {
         depth -= 1;
-        if peek(rest) == Sign::RightBrace {
-            return Ok((statements, eat(nesting, rest)?));
-        }
-        let (statement, behind) = block_item(alloc, depth, nesting, rest)?;
-        statements.push(statement)?;
+        let (item, behind) = next_item(alloc, depth, nesting, rest)?;
+        let Some(item) = item else {
+            return Ok((statements, behind));
+        };
+        statements.push(item)?;
         rest = behind;
     }
     Err(Fault::Out)

@@ -61,7 +61,8 @@ fn external(
     match peek(tokens) {
         Sign::Include => {
             let at = place(tokens);
-            Ok((External::Include(at), eat(nesting, tokens)?))
+            let tokens = eat(nesting, tokens)?;
+            Ok((External::Include(at), tokens))
         }
         _ => {
             let (opening, tokens) = open_declaration(alloc, depth, nesting, tokens)?;

@@ -12,13 +12,12 @@ ghost use Rattle.c_reading.specs.Ahead.{Reads, ReadsAt, shallow};
 use crate::declarations::declaration;
 use crate::expressions::{conditional, expression};
 use crate::fault::Fault;
-use crate::nodes;
 use crate::tokens::{eat, expect, peek, place};
 use crate::trees::begins_declaration;
 use c_grammar::Sign;
 use c_tree::syntax::{Expr, Start, Statement};
 use c_tree::{At, Token};
-use sqlite_items::Items;
+use sqlite_items::{Boxed, Items};
 use std::alloc::Global;
 
 /// An expression in parentheses.
@@ -159,9 +158,9 @@ fn return_statement(
     requires { nesting ≤ 200 }
     ensures reads { ReadsAt nesting (phrase (spec.return_statement shallow depth (spec.statements shallow depth) at) nesting (lexemes tokens.now)) result }
 {
-    let inner = nesting + 1;
-    let tokens = eat(inner, tokens)?;
-    let (e, _, tokens) = optional(alloc, depth, Sign::Semicolon, inner, tokens)?;
+    let deep = nesting + 1;
+    let tokens = eat(deep, tokens)?;
+    let (e, _, tokens) = optional(alloc, depth, Sign::Semicolon, deep, tokens)?;
     Ok((Statement::Return(at, e), tokens))
 }
 
@@ -176,12 +175,10 @@ fn break_statement(
     requires { nesting ≤ 200 }
     ensures reads { ReadsAt nesting (phrase (spec.break_statement shallow depth (spec.statements shallow depth) at) nesting (lexemes tokens.now)) result }
 {
-    let inner = nesting + 1;
-    let tokens = eat(inner, tokens)?;
-    Ok((
-        Statement::Break(at),
-        expect(Sign::Semicolon, inner, tokens)?,
-    ))
+    let deep = nesting + 1;
+    let tokens = eat(deep, tokens)?;
+    let tokens = expect(Sign::Semicolon, deep, tokens)?;
+    Ok((Statement::Break(at), tokens))
 }
 
 #[tactic(auto, unfolding(crate::specs::Statements::continue_statement))]
@@ -195,12 +192,10 @@ fn continue_statement(
     requires { nesting ≤ 200 }
     ensures reads { ReadsAt nesting (phrase (spec.continue_statement shallow depth (spec.statements shallow depth) at) nesting (lexemes tokens.now)) result }
 {
-    let inner = nesting + 1;
-    let tokens = eat(inner, tokens)?;
-    Ok((
-        Statement::Continue(at),
-        expect(Sign::Semicolon, inner, tokens)?,
-    ))
+    let deep = nesting + 1;
+    let tokens = eat(deep, tokens)?;
+    let tokens = expect(Sign::Semicolon, deep, tokens)?;
+    Ok((Statement::Continue(at), tokens))
 }
 
 #[tactic(auto, unfolding(crate::specs::Statements::expression_statement))]
@@ -214,8 +209,8 @@ fn expression_statement(
     requires { nesting ≤ 200 }
     ensures reads { ReadsAt nesting (phrase (spec.expression_statement shallow depth (spec.statements shallow depth) at) nesting (lexemes tokens.now)) result }
 {
-    let inner = nesting + 1;
-    let (e, _, tokens) = optional(alloc, depth, Sign::Semicolon, inner, tokens)?;
+    let deep = nesting + 1;
+    let (e, _, tokens) = optional(alloc, depth, Sign::Semicolon, deep, tokens)?;
     Ok((Statement::Evaluate(at, e), tokens))
 }
 
@@ -230,9 +225,9 @@ pub fn block(
     requires { nesting ≤ 201 }
     ensures reads { ReadsAt nesting (spec.block shallow (spec.statements shallow depth) nesting (lexemes tokens.now)) result }
 {
-    let inner = nesting + 1;
-    let tokens = expect(Sign::LeftBrace, inner, tokens)?;
-    statements(alloc, depth, inner, tokens)
+    let deep = nesting + 1;
+    let tokens = expect(Sign::LeftBrace, deep, tokens)?;
+    statements(alloc, depth, deep, tokens)
 }
 
 #[tactic(auto, unfolding(crate::specs::Statements::block_statement))]
@@ -247,8 +242,8 @@ fn block_statement(
     requires { nesting ≤ 200 }
     ensures reads { ReadsAt nesting (phrase (spec.block_statement shallow depth (spec.statements shallow depth) at) nesting (lexemes tokens.now)) result }
 {
-    let inner = nesting + 1;
-    let (statements, tokens) = block(alloc, depth, inner, tokens)?;
+    let deep = nesting + 1;
+    let (statements, tokens) = block(alloc, depth, deep, tokens)?;
     Ok((Statement::Block(at, statements), tokens))
 }
 
@@ -260,13 +255,13 @@ fn else_branch(
     depth: usize,
     nesting: u32,
     tokens: &[Token],
-) -> Result<(Option<Statement>, &[Token]), Fault>
+) -> Result<(Option<Boxed<Statement>>, &[Token]), Fault>
     ensures reads { ReadsAt nesting (spec.else_branch shallow (spec.statements shallow depth) nesting (lexemes tokens.now)) result }
 {
     match peek(tokens) {
         Sign::Else => {
             let tokens = eat(nesting, tokens)?;
-            let (statement, tokens) = statement(alloc, depth, nesting, tokens)?;
+            let (statement, tokens) = inner(alloc, depth, nesting, tokens)?;
             Ok((Some(statement), tokens))
         }
         _ => Ok((None, tokens)),
@@ -285,12 +280,12 @@ fn if_statement(
     requires { nesting ≤ 200 }
     ensures reads { ReadsAt nesting (phrase (spec.if_statement shallow depth (spec.statements shallow depth) at) nesting (lexemes tokens.now)) result }
 {
-    let inner = nesting + 1;
-    let tokens = eat(inner, tokens)?;
-    let (test, inner, tokens) = condition(alloc, depth, inner, tokens)?;
-    let (then, tokens) = statement(alloc, depth, inner, tokens)?;
-    let (other, tokens) = else_branch(alloc, depth, inner, tokens)?;
-    Ok((nodes::if_statement(alloc, at, test, then, other)?, tokens))
+    let deep = nesting + 1;
+    let tokens = eat(deep, tokens)?;
+    let (test, deep, tokens) = condition(alloc, depth, deep, tokens)?;
+    let (then, tokens) = inner(alloc, depth, deep, tokens)?;
+    let (other, tokens) = else_branch(alloc, depth, deep, tokens)?;
+    Ok((Statement::If(at, test, then, other), tokens))
 }
 
 #[tactic(auto, unfolding(crate::specs::Statements::while_statement))]
@@ -305,11 +300,11 @@ fn while_statement(
     requires { nesting ≤ 200 }
     ensures reads { ReadsAt nesting (phrase (spec.while_statement shallow depth (spec.statements shallow depth) at) nesting (lexemes tokens.now)) result }
 {
-    let inner = nesting + 1;
-    let tokens = eat(inner, tokens)?;
-    let (test, inner, tokens) = condition(alloc, depth, inner, tokens)?;
-    let (body, tokens) = statement(alloc, depth, inner, tokens)?;
-    Ok((nodes::while_statement(alloc, at, test, body)?, tokens))
+    let deep = nesting + 1;
+    let tokens = eat(deep, tokens)?;
+    let (test, deep, tokens) = condition(alloc, depth, deep, tokens)?;
+    let (body, tokens) = inner(alloc, depth, deep, tokens)?;
+    Ok((Statement::While(at, test, body), tokens))
 }
 
 #[tactic(auto, unfolding(crate::specs::Statements::do_statement))]
@@ -324,11 +319,11 @@ fn do_statement(
     requires { nesting ≤ 200 }
     ensures reads { ReadsAt nesting (phrase (spec.do_statement shallow depth (spec.statements shallow depth) at) nesting (lexemes tokens.now)) result }
 {
-    let inner = nesting + 1;
-    let tokens = eat(inner, tokens)?;
-    let (body, tokens) = statement(alloc, depth, inner, tokens)?;
-    let (test, _, tokens) = do_end(alloc, depth, inner, tokens)?;
-    Ok((nodes::do_statement(alloc, at, body, test)?, tokens))
+    let deep = nesting + 1;
+    let tokens = eat(deep, tokens)?;
+    let (body, tokens) = inner(alloc, depth, deep, tokens)?;
+    let (test, _, tokens) = do_end(alloc, depth, deep, tokens)?;
+    Ok((Statement::DoWhile(at, body, test), tokens))
 }
 
 #[tactic(auto, unfolding(crate::specs::Statements::for_statement))]
@@ -343,10 +338,10 @@ fn for_statement(
     requires { nesting ≤ 200 }
     ensures reads { ReadsAt nesting (phrase (spec.for_statement shallow depth (spec.statements shallow depth) at) nesting (lexemes tokens.now)) result }
 {
-    let inner = nesting + 1;
-    let (header, inner, tokens) = for_header(alloc, depth, inner, tokens)?;
-    let (body, tokens) = statement(alloc, depth, inner, tokens)?;
-    Ok((nodes::for_statement(alloc, at, header, body)?, tokens))
+    let deep = nesting + 1;
+    let ((start, test, step), deep, tokens) = for_header(alloc, depth, deep, tokens)?;
+    let (body, tokens) = inner(alloc, depth, deep, tokens)?;
+    Ok((Statement::For(at, start, test, step, body), tokens))
 }
 
 #[tactic(auto, unfolding(crate::specs::Statements::switch_statement))]
@@ -361,10 +356,10 @@ fn switch_statement(
     requires { nesting ≤ 200 }
     ensures reads { ReadsAt nesting (phrase (spec.switch_statement shallow depth (spec.statements shallow depth) at) nesting (lexemes tokens.now)) result }
 {
-    let inner = nesting + 1;
-    let tokens = eat(inner, tokens)?;
-    let (e, inner, tokens) = condition(alloc, depth, inner, tokens)?;
-    let (statements, tokens) = block(alloc, depth, inner, tokens)?;
+    let deep = nesting + 1;
+    let tokens = eat(deep, tokens)?;
+    let (e, deep, tokens) = condition(alloc, depth, deep, tokens)?;
+    let (statements, tokens) = block(alloc, depth, deep, tokens)?;
     Ok((Statement::Switch(at, e, statements), tokens))
 }
 
@@ -380,10 +375,10 @@ fn case_statement(
     requires { nesting ≤ 200 }
     ensures reads { ReadsAt nesting (phrase (spec.case_statement shallow depth (spec.statements shallow depth) at) nesting (lexemes tokens.now)) result }
 {
-    let inner = nesting + 1;
-    let (value, tokens) = case_label(alloc, depth, inner, tokens)?;
-    let (body, tokens) = statement(alloc, depth, inner, tokens)?;
-    Ok((nodes::case_statement(alloc, at, value, body)?, tokens))
+    let deep = nesting + 1;
+    let (value, tokens) = case_label(alloc, depth, deep, tokens)?;
+    let (body, tokens) = inner(alloc, depth, deep, tokens)?;
+    Ok((Statement::Case(at, value, body), tokens))
 }
 
 #[tactic(auto, unfolding(crate::specs::Statements::default_statement))]
@@ -398,11 +393,11 @@ fn default_statement(
     requires { nesting ≤ 200 }
     ensures reads { ReadsAt nesting (phrase (spec.default_statement shallow depth (spec.statements shallow depth) at) nesting (lexemes tokens.now)) result }
 {
-    let inner = nesting + 1;
-    let tokens = eat(inner, tokens)?;
-    let tokens = expect(Sign::Colon, inner, tokens)?;
-    let (body, tokens) = statement(alloc, depth, inner, tokens)?;
-    Ok((nodes::default_statement(alloc, at, body)?, tokens))
+    let deep = nesting + 1;
+    let tokens = eat(deep, tokens)?;
+    let tokens = expect(Sign::Colon, deep, tokens)?;
+    let (body, tokens) = inner(alloc, depth, deep, tokens)?;
+    Ok((Statement::Default(at, body), tokens))
 }
 
 /// A phrase that counts in the nesting.
@@ -434,6 +429,21 @@ fn statement(
         Sign::Return => return_statement(alloc, depth - 1, at, nesting, tokens),
         _ => expression_statement(alloc, depth - 1, at, nesting, tokens),
     }
+}
+
+/// A statement within another.
+#[cycle(statements)]
+fn inner(
+    alloc: Global,
+    depth: usize,
+    nesting: u32,
+    tokens: &[Token],
+) -> Result<(Boxed<Statement>, &[Token]), Fault>
+    requires { nesting ≤ 200 }
+    ensures reads { ReadsAt nesting ((spec.statements shallow depth).one nesting (lexemes tokens.now)) result }
+{
+    let (statement, tokens) = statement(alloc, depth, nesting, tokens)?;
+    Ok((Boxed::new(alloc, statement)?, tokens))
 }
 
 /// A statement or a declaration of a block.

@@ -98,24 +98,9 @@ impl Page {
         self.put(text.as_bytes())
     }
 
-    fn pair(&mut self, left: &Expr, middle: &[u8], right: &Expr) -> Printed {
-        self.put(b"(")?;
-        self.expr(left)?;
-        self.put(middle)?;
-        self.expr(right)?;
-        self.put(b")")
-    }
-
-    fn list(&mut self, es: &[Expr]) -> Printed {
-        let mut first = true;
-        for e in es {
-            if !first {
-                self.put(b", ")?;
-            }
-            first = false;
-            self.expr(e)?;
-        }
-        Ok(())
+    fn character(&mut self, value: i32) -> Printed {
+        let text = format!(in self.alloc; "'{value}'")?;
+        self.put(text.as_bytes())
     }
 
     fn constant(&mut self, value: u64, decimal: bool, unsigned: bool) -> Printed {
@@ -131,9 +116,27 @@ impl Page {
 
     fn expr(&mut self, e: &Expr) -> Printed {
         match e {
-            Expr::Comma(_, a, b) => self.pair(a.get(), b" , ", b.get()),
-            Expr::Assign(_, a, o, b) => self.pair(a.get(), assign(*o), b.get()),
-            Expr::Binary(_, a, o, b) => self.pair(a.get(), binary(*o), b.get()),
+            Expr::Comma(_, a, b) => {
+                self.put(b"(")?;
+                self.expr(a.get())?;
+                self.put(b" , ")?;
+                self.expr(b.get())?;
+                self.put(b")")
+            }
+            Expr::Assign(_, a, o, b) => {
+                self.put(b"(")?;
+                self.expr(a.get())?;
+                self.put(assign(*o))?;
+                self.expr(b.get())?;
+                self.put(b")")
+            }
+            Expr::Binary(_, a, o, b) => {
+                self.put(b"(")?;
+                self.expr(a.get())?;
+                self.put(binary(*o))?;
+                self.expr(b.get())?;
+                self.put(b")")
+            }
             Expr::Conditional(_, a, b, c) => {
                 self.put(b"(")?;
                 self.expr(a.get())?;
@@ -178,7 +181,12 @@ impl Page {
             Expr::Call(_, n, es) => {
                 self.put(n.as_slice())?;
                 self.put(b"(")?;
-                self.list(es.as_slice())?;
+                let mut first = true;
+                for e in es.as_slice() {
+                    self.put(if first { b"" } else { b", " })?;
+                    first = false;
+                    self.expr(e)?;
+                }
                 self.put(b")")
             }
             Expr::Number {
@@ -187,16 +195,23 @@ impl Page {
                 unsigned,
                 ..
             } => self.constant(*value, *decimal, *unsigned),
-            Expr::Character(_, v) => {
-                let text = format!(in self.alloc; "'{v}'")?;
-                self.put(text.as_bytes())
-            }
+            Expr::Character(_, v) => self.character(*v),
             Expr::Paren(_, e) => {
                 self.put(b"<")?;
                 self.expr(e.get())?;
                 self.put(b">")
             }
         }
+    }
+
+    fn list(&mut self, es: &[Expr]) -> Printed {
+        let mut first = true;
+        for e in es {
+            self.put(if first { b"" } else { b", " })?;
+            first = false;
+            self.expr(e)?;
+        }
+        Ok(())
     }
 
     fn size(&mut self, size: &Size) -> Printed {
@@ -310,12 +325,6 @@ impl Page {
         }
     }
 
-    fn inner(&mut self, statement: &Statement) -> Printed {
-        self.put(b"[")?;
-        self.statement(statement)?;
-        self.put(b"]")
-    }
-
     fn controlled(&mut self, word: &[u8], e: &Expr) -> Printed {
         self.put(word)?;
         self.put(b"(")?;
@@ -323,17 +332,15 @@ impl Page {
         self.put(b")")
     }
 
-    fn block(&mut self, statements: &[Statement]) -> Printed {
-        self.put(b"{")?;
-        for statement in statements {
-            self.statement(statement)?;
-        }
-        self.put(b"}")
-    }
-
     fn statement(&mut self, statement: &Statement) -> Printed {
         match statement {
-            Statement::Block(_, statements) => self.block(statements.as_slice()),
+            Statement::Block(_, statements) => {
+                self.put(b"{")?;
+                for inner in statements.as_slice() {
+                    self.statement(inner)?;
+                }
+                self.put(b"}")
+            }
             Statement::Declared(declaration) => self.declaration(declaration),
             Statement::Evaluate(_, e) => {
                 self.optional(e)?;
@@ -341,22 +348,28 @@ impl Page {
             }
             Statement::If(_, e, then, other) => {
                 self.controlled(b"if", e)?;
-                self.inner(then.get())?;
+                self.put(b"[")?;
+                self.statement(then.get())?;
+                self.put(b"]")?;
                 match other {
                     None => Ok(()),
                     Some(other) => {
-                        self.put(b"else")?;
-                        self.inner(other.get())
+                        self.put(b"else[")?;
+                        self.statement(other.get())?;
+                        self.put(b"]")
                     }
                 }
             }
             Statement::While(_, e, body) => {
                 self.controlled(b"while", e)?;
-                self.inner(body.get())
+                self.put(b"[")?;
+                self.statement(body.get())?;
+                self.put(b"]")
             }
             Statement::DoWhile(_, body, e) => {
-                self.put(b"do")?;
-                self.inner(body.get())?;
+                self.put(b"do[")?;
+                self.statement(body.get())?;
+                self.put(b"]")?;
                 self.controlled(b"while", e)?;
                 self.put(b";")
             }
@@ -367,21 +380,31 @@ impl Page {
                 self.put(b";")?;
                 self.optional(step)?;
                 self.put(b")")?;
-                self.inner(body.get())
+                self.put(b"[")?;
+                self.statement(body.get())?;
+                self.put(b"]")
             }
             Statement::Switch(_, e, statements) => {
                 self.controlled(b"switch", e)?;
-                self.block(statements.as_slice())
+                self.put(b"{")?;
+                for inner in statements.as_slice() {
+                    self.statement(inner)?;
+                }
+                self.put(b"}")
             }
             Statement::Case(_, e, body) => {
                 self.put(b"case ")?;
                 self.expr(e)?;
                 self.put(b":")?;
-                self.inner(body.get())
+                self.put(b"[")?;
+                self.statement(body.get())?;
+                self.put(b"]")
             }
             Statement::Default(_, body) => {
                 self.put(b"default:")?;
-                self.inner(body.get())
+                self.put(b"[")?;
+                self.statement(body.get())?;
+                self.put(b"]")
             }
             Statement::Break(_) => self.put(b"break;"),
             Statement::Continue(_) => self.put(b"continue;"),
@@ -405,7 +428,11 @@ impl Page {
                 ..
             } => {
                 self.function(gives, name.as_slice(), parameters)?;
-                self.block(body.as_slice())
+                self.put(b"{")?;
+                for statement in body.as_slice() {
+                    self.statement(statement)?;
+                }
+                self.put(b"}")
             }
         }
     }

@@ -9,6 +9,9 @@ use std::test::Fail;
 use vp_io::Reason;
 
 fn tree_of(alloc: Global, source: &[u8]) -> Result<Syntax, CFault> {
+    if source.len() > 10_000 {
+        return Err(CFault::NoMemory);
+    }
     let tokens = lex(alloc, source)?;
     parse(alloc, &tokens)
 }
@@ -22,14 +25,18 @@ fn shown(alloc: Global, source: &[u8]) -> Result<Vec<u8>, AllocError> {
 }
 
 /// The rule that a source breaks, with the column where it does, on the first line.
-fn refusal(alloc: Global, source: &[u8]) -> Option<(u32, u8)> {
+fn refusal(alloc: Global, source: &[u8]) -> Option<(usize, u8)> {
     match tree_of(alloc, source) {
-        Err(CFault::Bad(Reason {
-            line: 1,
-            column,
-            rule,
-            ..
-        })) => Some((column, rule)),
+        Err(
+            CFault::Bad(
+                Reason {
+                    line: 1,
+                    column,
+                    rule,
+                    ..
+                },
+            ),
+        ) => Some((column as usize, rule)),
         _ => None,
     }
 }
@@ -107,21 +114,48 @@ const STATEMENTS: [(&[u8], &[u8]); 76] = [
     (b"017u+0x1F+10;", b"((15#u + 31#) + 10);"),
     (b"'a'+'\\377';", b"('97' + '-1');"),
     (b"if(a)if(b)c;else d;", b"if(a)[if(b)[c;]else[d;]]"),
-    (b"if(a)b;else if(c)d;else e;", b"if(a)[b;]else[if(c)[d;]else[e;]]"),
+    (
+        b"if(a)b;else if(c)d;else e;",
+        b"if(a)[b;]else[if(c)[d;]else[e;]]",
+    ),
     (b"if(a){if(b)c;}else d;", b"if(a)[{if(b)[c;]}]else[d;]"),
-    (b"if(a)while(b)if(c)d;else e;", b"if(a)[while(b)[if(c)[d;]else[e;]]]"),
-    (b"if(a)for(;;)if(b)c;else d;", b"if(a)[for(;;)[if(b)[c;]else[d;]]]"),
-    (b"do if(a)b;else c;while(d);", b"do[if(a)[b;]else[c;]]while(d);"),
+    (
+        b"if(a)while(b)if(c)d;else e;",
+        b"if(a)[while(b)[if(c)[d;]else[e;]]]",
+    ),
+    (
+        b"if(a)for(;;)if(b)c;else d;",
+        b"if(a)[for(;;)[if(b)[c;]else[d;]]]",
+    ),
+    (
+        b"do if(a)b;else c;while(d);",
+        b"do[if(a)[b;]else[c;]]while(d);",
+    ),
     (b"for(a;b;c)d;", b"for(a;b;c)[d;]"),
     (b"for(a,b;;c,d);", b"for((a , b);;(c , d))[;]"),
-    (b"for(int i=1;i<n;i++){}", b"for(int i = 1;(i < n);(i++))[{}]"),
-    (b"switch(a){case 1:b;break;default:c;}", b"switch(a){case 1:[b;]break;default:[c;]}"),
-    (b"switch(a){case 1:case 2+3:b;}", b"switch(a){case 1:[case (2 + 3):[b;]]}"),
+    (
+        b"for(int i=1;i<n;i++){}",
+        b"for(int i = 1;(i < n);(i++))[{}]",
+    ),
+    (
+        b"switch(a){case 1:b;break;default:c;}",
+        b"switch(a){case 1:[b;]break;default:[c;]}",
+    ),
+    (
+        b"switch(a){case 1:case 2+3:b;}",
+        b"switch(a){case 1:[case (2 + 3):[b;]]}",
+    ),
     (b"return;return a,b;", b"return ;return (a , b);"),
     (b";{}{a;{b;}}", b";{}{a;{b;}}"),
-    (b"int a=1,b[2]={1,2},c[]={1,};", b"int a = 1, b[2] = {1, 2}, c[] = {1,};"),
+    (
+        b"int a=1,b[2]={1,2},c[]={1,};",
+        b"int a = 1, b[2] = {1, 2}, c[] = {1,};",
+    ),
     (b"int a[1]={b=c,};", b"int a[1] = {(b = c),};"),
-    (b"int f(void);void g(int,char c);", b"int f(void);void g(int, char c);"),
+    (
+        b"int f(void);void g(int,char c);",
+        b"int f(void);void g(int, char c);",
+    ),
     (b"continue;break;a;", b"continue;break;a;"),
 ];
 
@@ -138,15 +172,30 @@ fn statements_have_trees(rt: HostRuntime) -> Result<(), Fail> {
 
 const PROGRAMS: [(&[u8], &[u8]); 13] = [
     (b"int main(void){return 1;}", b"int main(void){return 1;}"),
-    (b"char signed a;unsigned char b;char unsigned c;", b"char signed a;unsigned char b;char unsigned c;"),
-    (b"int signed d;signed int e;int unsigned f;unsigned int g;", b"int signed d;signed int e;int unsigned f;unsigned int g;"),
-    (b"signed h;unsigned i;char j;signed char k;", b"signed h;unsigned i;char j;signed char k;"),
+    (
+        b"char signed a;unsigned char b;char unsigned c;",
+        b"char signed a;unsigned char b;char unsigned c;",
+    ),
+    (
+        b"int signed d;signed int e;int unsigned f;unsigned int g;",
+        b"int signed d;signed int e;int unsigned f;unsigned int g;",
+    ),
+    (
+        b"signed h;unsigned i;char j;signed char k;",
+        b"signed h;unsigned i;char j;signed char k;",
+    ),
     (b"void f();void f(void){}", b"void f();void f(void){}"),
     (b"int f(int a,char){}int g;", b"int f(int a, char){}int g;"),
-    (b"unsigned int f(signed char a,int unsigned);", b"unsigned int f(signed char a, int unsigned);"),
+    (
+        b"unsigned int f(signed char a,int unsigned);",
+        b"unsigned int f(signed char a, int unsigned);",
+    ),
     (b"int a[]={1,2,},b;", b"int a[] = {1, 2,}, b;"),
     (b"int a[1<2?3:4];", b"int a[((1 < 2) ? 3 : 4)];"),
-    (b"int a[3]={1,2,3},b=a?b:c;", b"int a[3] = {1, 2, 3}, b = (a ? b : c);"),
+    (
+        b"int a[3]={1,2,3},b=a?b:c;",
+        b"int a[3] = {1, 2, 3}, b = (a ? b : c);",
+    ),
     (b"#include <stdio.h>\nint x;", b"#int x;"),
     (b"int x; // end", b"int x;"),
     (b"int/* a */x;", b"int x;"),
@@ -161,8 +210,13 @@ fn programs_have_trees(rt: HostRuntime) -> Result<(), Fail> {
     Ok(())
 }
 
+fn is_told(alloc: Global, before: &[u8], rest: &[u8], rule: u8) -> Result<bool, AllocError> {
+    let source = joined(alloc, &[before, rest])?;
+    Ok(refusal(alloc, &source) == Some((before.len() + 1, rule)))
+}
+
 /// What stands before the first token that continues no program, and the source from there on.
-const STOPS: [(&[u8], &[u8]); 166] = [
+const IN_DECLARATIONS: [(&[u8], &[u8]); 61] = [
     (b"", b"x;"),
     (b"", b";"),
     (b"", b"1"),
@@ -224,6 +278,19 @@ const STOPS: [(&[u8], &[u8]); 166] = [
     (b"int f(int a)", b"int b;{}"),
     (b"int x;", b"x=1;"),
     (b"int f(){}", b"}"),
+];
+
+#[test]
+fn first_bad_token_in_declarations_is_told(rt: HostRuntime) -> Result<(), Fail> {
+    let alloc = rt.alloc();
+    for (before, rest) in IN_DECLARATIONS {
+        assert!(rt; is_told(alloc, before, rest, 5)?);
+    }
+    Ok(())
+}
+
+/// What stands before the first token that continues no program, and the source from there on.
+const IN_OPERATORS: [(&[u8], &[u8]); 39] = [
     (b"int f(){}", b";"),
     (b"int f(){", b""),
     (b"int main(void){", b""),
@@ -263,6 +330,19 @@ const STOPS: [(&[u8], &[u8]); 166] = [
     (b"int f(){f(a,", b");}"),
     (b"int f(){f(a ", b"b);}"),
     (b"int f(){a[", b"];}"),
+];
+
+#[test]
+fn first_bad_token_in_operators_is_told(rt: HostRuntime) -> Result<(), Fail> {
+    let alloc = rt.alloc();
+    for (before, rest) in IN_OPERATORS {
+        assert!(rt; is_told(alloc, before, rest, 5)?);
+    }
+    Ok(())
+}
+
+/// What stands before the first token that continues no program, and the source from there on.
+const IN_EXPRESSIONS: [(&[u8], &[u8]); 25] = [
     (b"int f(){a[1", b";}"),
     (b"int f(){a[1]", b"[2];}"),
     (b"int f(){f(1)", b"(2);}"),
@@ -288,6 +368,19 @@ const STOPS: [(&[u8], &[u8]); 166] = [
     (b"int f(){if(a);else;", b"else;}"),
     (b"int f(){if(a)", b"int b;}"),
     (b"int f(){while", b";}"),
+];
+
+#[test]
+fn first_bad_token_in_expressions_is_told(rt: HostRuntime) -> Result<(), Fail> {
+    let alloc = rt.alloc();
+    for (before, rest) in IN_EXPRESSIONS {
+        assert!(rt; is_told(alloc, before, rest, 5)?);
+    }
+    Ok(())
+}
+
+/// What stands before the first token that continues no program, and the source from there on.
+const IN_STATEMENTS: [(&[u8], &[u8]); 41] = [
     (b"int f(){while(", b");}"),
     (b"int f(){while(a)", b"int b;}"),
     (b"int f(){do a;", b"}"),
@@ -332,12 +425,10 @@ const STOPS: [(&[u8], &[u8]); 166] = [
 ];
 
 #[test]
-fn first_bad_token_is_told(rt: HostRuntime) -> Result<(), Fail> {
+fn first_bad_token_in_statements_is_told(rt: HostRuntime) -> Result<(), Fail> {
     let alloc = rt.alloc();
-    for (before, rest) in STOPS {
-        let source = joined(alloc, &[before, rest])?;
-        let column = before.len() as u32 + 1;
-        assert_eq!(rt; refusal(alloc, &source), Some((column, 5)));
+    for (before, rest) in IN_STATEMENTS {
+        assert!(rt; is_told(alloc, before, rest, 5)?);
     }
     Ok(())
 }
@@ -359,16 +450,18 @@ const TOKENS: [(&[u8], &[u8], u8); 16] = [
     (b"int x=", b"'ab';", 2),
     (b"int x;", b"/* a", 3),
     (b"int ", b"/*/ x;", 3),
-    (b"int ", b"aaaaaaaaaaaaaaaaaaaaaaaaaaaaaaaaaaaaaaaaaaaaaaaaaaaaaaaaaaaaaaaa;", 4),
+    (
+        b"int ",
+        b"aaaaaaaaaaaaaaaaaaaaaaaaaaaaaaaaaaaaaaaaaaaaaaaaaaaaaaaaaaaaaaaa;",
+        4,
+    ),
 ];
 
 #[test]
 fn rules_of_tokens_come_first(rt: HostRuntime) -> Result<(), Fail> {
     let alloc = rt.alloc();
     for (before, rest, rule) in TOKENS {
-        let source = joined(alloc, &[before, rest])?;
-        let column = before.len() as u32 + 1;
-        assert_eq!(rt; refusal(alloc, &source), Some((column, rule)));
+        assert!(rt; is_told(alloc, before, rest, rule)?);
     }
     Ok(())
 }
@@ -380,7 +473,7 @@ struct Nested {
     middle: &'static [u8],
     close: &'static [u8],
     after: &'static [u8],
-    column: Option<u32>,
+    column: Option<usize>,
 }
 
 impl Nested {
@@ -400,33 +493,249 @@ impl Nested {
 
 /// The deepest token that may stand there, and one more; lists count nothing.
 const NESTED: [Nested; 27] = [
-    Nested { before: b"int main(void){return ", open: b"(", count: 197, middle: b"1", close: b")", after: b";}", column: None },
-    Nested { before: b"int main(void){return ", open: b"(", count: 198, middle: b"1", close: b")", after: b";}", column: Some(221) },
-    Nested { before: b"int f(){", open: b"{", count: 99, middle: b"", close: b"}", after: b"}", column: None },
-    Nested { before: b"int f(){", open: b"{", count: 100, middle: b"", close: b"}", after: b"}", column: Some(108) },
-    Nested { before: b"int x=", open: b"~", count: 199, middle: b"1", close: b"", after: b";", column: None },
-    Nested { before: b"int x=", open: b"~", count: 200, middle: b"1", close: b"", after: b";", column: Some(207) },
-    Nested { before: b"int x=1", open: b"+1", count: 199, middle: b"", close: b"", after: b";", column: None },
-    Nested { before: b"int x=1", open: b"+1", count: 200, middle: b"", close: b"", after: b";", column: Some(407) },
-    Nested { before: b"int f(){a", open: b",a", count: 197, middle: b"", close: b"", after: b";}", column: None },
-    Nested { before: b"int f(){a", open: b",a", count: 198, middle: b"", close: b"", after: b";}", column: Some(405) },
-    Nested { before: b"int f(){", open: b"if(a)", count: 198, middle: b";", close: b"", after: b"}", column: None },
-    Nested { before: b"int f(){", open: b"if(a)", count: 199, middle: b";", close: b"", after: b"}", column: Some(1002) },
-    Nested { before: b"int a[", open: b"(", count: 199, middle: b"1", close: b")", after: b"];", column: None },
-    Nested { before: b"int a[", open: b"(", count: 200, middle: b"1", close: b")", after: b"];", column: Some(207) },
-    Nested { before: b"int x=", open: b"(int)", count: 199, middle: b"1", close: b"", after: b";", column: None },
-    Nested { before: b"int x=", open: b"(int)", count: 200, middle: b"1", close: b"", after: b";", column: Some(1007) },
-    Nested { before: b"int f(){", open: b"a=", count: 98, middle: b"1", close: b"", after: b";}", column: None },
-    Nested { before: b"int f(){", open: b"a=", count: 99, middle: b"1", close: b"", after: b";}", column: Some(207) },
-    Nested { before: b"int x=", open: b"1?1:", count: 198, middle: b"1", close: b"", after: b";", column: None },
-    Nested { before: b"int x=", open: b"1?1:", count: 199, middle: b"1", close: b"", after: b";", column: Some(801) },
-    Nested { before: b"int x=a", open: b"++", count: 199, middle: b"", close: b"", after: b";", column: None },
-    Nested { before: b"int f(){f(0", open: b",a", count: 300, middle: b"", close: b"", after: b");}", column: None },
-    Nested { before: b"int x[]={0", open: b",1", count: 300, middle: b"", close: b"", after: b"};", column: None },
-    Nested { before: b"int x", open: b",y", count: 300, middle: b"", close: b"", after: b";", column: None },
-    Nested { before: b"int f(int", open: b",int", count: 300, middle: b"", close: b"", after: b");", column: None },
-    Nested { before: b"int f(){", open: b"a=b;", count: 300, middle: b"", close: b"", after: b"}", column: None },
-    Nested { before: b"", open: b"int x=1+1;", count: 300, middle: b"", close: b"", after: b"", column: None },
+    Nested {
+        before: b"int main(void){return ",
+        open: b"(",
+        count: 197,
+        middle: b"1",
+        close: b")",
+        after: b";}",
+        column: None,
+    },
+    Nested {
+        before: b"int main(void){return ",
+        open: b"(",
+        count: 198,
+        middle: b"1",
+        close: b")",
+        after: b";}",
+        column: Some(221),
+    },
+    Nested {
+        before: b"int f(){",
+        open: b"{",
+        count: 99,
+        middle: b"",
+        close: b"}",
+        after: b"}",
+        column: None,
+    },
+    Nested {
+        before: b"int f(){",
+        open: b"{",
+        count: 100,
+        middle: b"",
+        close: b"}",
+        after: b"}",
+        column: Some(108),
+    },
+    Nested {
+        before: b"int x=",
+        open: b"~",
+        count: 199,
+        middle: b"1",
+        close: b"",
+        after: b";",
+        column: None,
+    },
+    Nested {
+        before: b"int x=",
+        open: b"~",
+        count: 200,
+        middle: b"1",
+        close: b"",
+        after: b";",
+        column: Some(207),
+    },
+    Nested {
+        before: b"int x=1",
+        open: b"+1",
+        count: 199,
+        middle: b"",
+        close: b"",
+        after: b";",
+        column: None,
+    },
+    Nested {
+        before: b"int x=1",
+        open: b"+1",
+        count: 200,
+        middle: b"",
+        close: b"",
+        after: b";",
+        column: Some(407),
+    },
+    Nested {
+        before: b"int f(){a",
+        open: b",a",
+        count: 197,
+        middle: b"",
+        close: b"",
+        after: b";}",
+        column: None,
+    },
+    Nested {
+        before: b"int f(){a",
+        open: b",a",
+        count: 198,
+        middle: b"",
+        close: b"",
+        after: b";}",
+        column: Some(405),
+    },
+    Nested {
+        before: b"int f(){",
+        open: b"if(a)",
+        count: 198,
+        middle: b";",
+        close: b"",
+        after: b"}",
+        column: None,
+    },
+    Nested {
+        before: b"int f(){",
+        open: b"if(a)",
+        count: 199,
+        middle: b";",
+        close: b"",
+        after: b"}",
+        column: Some(1002),
+    },
+    Nested {
+        before: b"int a[",
+        open: b"(",
+        count: 199,
+        middle: b"1",
+        close: b")",
+        after: b"];",
+        column: None,
+    },
+    Nested {
+        before: b"int a[",
+        open: b"(",
+        count: 200,
+        middle: b"1",
+        close: b")",
+        after: b"];",
+        column: Some(207),
+    },
+    Nested {
+        before: b"int x=",
+        open: b"(int)",
+        count: 199,
+        middle: b"1",
+        close: b"",
+        after: b";",
+        column: None,
+    },
+    Nested {
+        before: b"int x=",
+        open: b"(int)",
+        count: 200,
+        middle: b"1",
+        close: b"",
+        after: b";",
+        column: Some(1007),
+    },
+    Nested {
+        before: b"int f(){",
+        open: b"a=",
+        count: 98,
+        middle: b"1",
+        close: b"",
+        after: b";}",
+        column: None,
+    },
+    Nested {
+        before: b"int f(){",
+        open: b"a=",
+        count: 99,
+        middle: b"1",
+        close: b"",
+        after: b";}",
+        column: Some(207),
+    },
+    Nested {
+        before: b"int x=",
+        open: b"1?1:",
+        count: 198,
+        middle: b"1",
+        close: b"",
+        after: b";",
+        column: None,
+    },
+    Nested {
+        before: b"int x=",
+        open: b"1?1:",
+        count: 199,
+        middle: b"1",
+        close: b"",
+        after: b";",
+        column: Some(801),
+    },
+    Nested {
+        before: b"int x=a",
+        open: b"++",
+        count: 199,
+        middle: b"",
+        close: b"",
+        after: b";",
+        column: None,
+    },
+    Nested {
+        before: b"int f(){f(0",
+        open: b",a",
+        count: 300,
+        middle: b"",
+        close: b"",
+        after: b");}",
+        column: None,
+    },
+    Nested {
+        before: b"int x[]={0",
+        open: b",1",
+        count: 300,
+        middle: b"",
+        close: b"",
+        after: b"};",
+        column: None,
+    },
+    Nested {
+        before: b"int x",
+        open: b",y",
+        count: 300,
+        middle: b"",
+        close: b"",
+        after: b";",
+        column: None,
+    },
+    Nested {
+        before: b"int f(int",
+        open: b",int",
+        count: 300,
+        middle: b"",
+        close: b"",
+        after: b");",
+        column: None,
+    },
+    Nested {
+        before: b"int f(){",
+        open: b"a=b;",
+        count: 300,
+        middle: b"",
+        close: b"",
+        after: b"}",
+        column: None,
+    },
+    Nested {
+        before: b"",
+        open: b"int x=1+1;",
+        count: 300,
+        middle: b"",
+        close: b"",
+        after: b"",
+        column: None,
+    },
 ];
 
 #[test]
@@ -451,5 +760,15 @@ fn blanks_are_an_empty_program(rt: HostRuntime) -> Result<(), Fail> {
 #[test]
 fn include_line_in_a_function_is_told(rt: HostRuntime) {
     let fault = tree_of(rt.alloc(), b"int f(){\n #include <stdio.h>\n}");
-    assert!(rt; matches!(fault, Err(CFault::Bad(Reason { line: 2, column: 2, rule: 5, .. }))));
+    assert!(rt;
+        matches!(
+            fault,
+            Err(CFault::Bad(Reason {
+                line: 2,
+                column: 2,
+                rule: 5,
+                ..
+            }))
+        )
+    );
 }

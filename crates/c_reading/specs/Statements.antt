@@ -193,6 +193,10 @@ module _ (T : ℕ → Bool) where
     statement_by at sign.Return = return_statement at
     statement_by at _ = expression_statement at
 
+    -- a statement, whose first word stands there
+    unfoldable pub statement_at : At → Parser Statement
+    statement_at at = peek >>= statement_by at
+
     -- a statement or a declaration of a block
     unfoldable pub block_item : Parser Statement
     block_item = do
@@ -201,25 +205,17 @@ module _ (T : ℕ → Bool) where
         x ← declaration T d
         pure (statement_.Declared x)) else S.one
 
-    -- the next part of a block, if it hasn't ended
-    unfoldable pub next_item : Parser (Option Statement)
-    next_item = do
+    abbrev pub block_rest : List Statement → Parser (List Statement)
+    block_rest ss = do
       s ← peek
-      if same s sign.RightBrace then eat T >> pure None else (do
+      if same s sign.RightBrace then eat T >> pure ss else (do
         x ← block_item
-        pure (Some x))
-
-    abbrev pub continued : List Statement → Option Statement → Parser (List Statement)
-    continued ss None = pure ss
-    continued ss (Some x) = S.rest (ss ++ x ∷ [])
+        S.rest (ss ++ x ∷ []))
 
     abbrev pub statements_step : Statements
     statements_step = record {
-      one = phrase (do
-        at ← place
-        s ← peek
-        statement_by at s);
-      rest = λ ss. next_item >>= continued ss;
+      one = phrase (place >>= statement_at);
+      rest = block_rest;
     }
 
   -- the statements with calls at most so deep

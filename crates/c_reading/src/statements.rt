@@ -4,7 +4,6 @@
 
 ghost use Rattle.std.specs.Prelude.{◌≡◌, ◌≤◌, [], IfOk};
 ghost use Rattle.c_grammar.specs.Words.{lexemes};
-ghost use Rattle.c_reading.specs.Parsers.{phrase};
 ghost use Rattle.c_reading.specs.Expressions.{read};
 ghost use Rattle.c_reading.specs.Statements as spec;
 ghost use Rattle.c_reading.specs.Ahead.{Reads, ReadsAt, shallow};
@@ -81,6 +80,7 @@ fn case_label(
     tokens: &[Token],
 ) -> Result<(Expr, &[Token]), Fault>
     ensures reads { ReadsAt nesting (spec.case_label shallow (read shallow depth) nesting (lexemes tokens.now)) result }
+    ensures few { IfOk result (λ _. nesting ≤ 200) }
 {
     let tokens = eat(nesting, tokens)?;
     let (e, _, tokens) = conditional(alloc, depth, nesting + 1, tokens)?;
@@ -154,14 +154,13 @@ fn return_statement(
     at: At,
     nesting: u32,
     tokens: &[Token],
-) -> Result<(Statement, &[Token]), Fault>
-    requires { nesting ≤ 200 }
-    ensures reads { ReadsAt nesting (phrase (spec.return_statement shallow depth (spec.statements shallow depth) at) nesting (lexemes tokens.now)) result }
+) -> Result<(Statement, u32, &[Token]), Fault>
+    requires { nesting ≤ 201 }
+    ensures reads { Reads (spec.return_statement shallow depth (spec.statements shallow depth) at nesting (lexemes tokens.now)) result }
 {
-    let deep = nesting + 1;
-    let tokens = eat(deep, tokens)?;
-    let (e, _, tokens) = optional(alloc, depth, Sign::Semicolon, deep, tokens)?;
-    Ok((Statement::Return(at, e), tokens))
+    let tokens = eat(nesting, tokens)?;
+    let (e, nesting, tokens) = optional(alloc, depth, Sign::Semicolon, nesting, tokens)?;
+    Ok((Statement::Return(at, e), nesting, tokens))
 }
 
 #[tactic(auto, unfolding(crate::specs::Statements::break_statement))]
@@ -171,14 +170,13 @@ fn break_statement(
     at: At,
     nesting: u32,
     tokens: &[Token],
-) -> Result<(Statement, &[Token]), Fault>
-    requires { nesting ≤ 200 }
-    ensures reads { ReadsAt nesting (phrase (spec.break_statement shallow depth (spec.statements shallow depth) at) nesting (lexemes tokens.now)) result }
+) -> Result<(Statement, u32, &[Token]), Fault>
+    requires { nesting ≤ 201 }
+    ensures reads { Reads (spec.break_statement shallow depth (spec.statements shallow depth) at nesting (lexemes tokens.now)) result }
 {
-    let deep = nesting + 1;
-    let tokens = eat(deep, tokens)?;
-    let tokens = expect(Sign::Semicolon, deep, tokens)?;
-    Ok((Statement::Break(at), tokens))
+    let tokens = eat(nesting, tokens)?;
+    let tokens = expect(Sign::Semicolon, nesting, tokens)?;
+    Ok((Statement::Break(at), nesting, tokens))
 }
 
 #[tactic(auto, unfolding(crate::specs::Statements::continue_statement))]
@@ -188,14 +186,13 @@ fn continue_statement(
     at: At,
     nesting: u32,
     tokens: &[Token],
-) -> Result<(Statement, &[Token]), Fault>
-    requires { nesting ≤ 200 }
-    ensures reads { ReadsAt nesting (phrase (spec.continue_statement shallow depth (spec.statements shallow depth) at) nesting (lexemes tokens.now)) result }
+) -> Result<(Statement, u32, &[Token]), Fault>
+    requires { nesting ≤ 201 }
+    ensures reads { Reads (spec.continue_statement shallow depth (spec.statements shallow depth) at nesting (lexemes tokens.now)) result }
 {
-    let deep = nesting + 1;
-    let tokens = eat(deep, tokens)?;
-    let tokens = expect(Sign::Semicolon, deep, tokens)?;
-    Ok((Statement::Continue(at), tokens))
+    let tokens = eat(nesting, tokens)?;
+    let tokens = expect(Sign::Semicolon, nesting, tokens)?;
+    Ok((Statement::Continue(at), nesting, tokens))
 }
 
 #[tactic(auto, unfolding(crate::specs::Statements::expression_statement))]
@@ -205,13 +202,12 @@ fn expression_statement(
     at: At,
     nesting: u32,
     tokens: &[Token],
-) -> Result<(Statement, &[Token]), Fault>
-    requires { nesting ≤ 200 }
-    ensures reads { ReadsAt nesting (phrase (spec.expression_statement shallow depth (spec.statements shallow depth) at) nesting (lexemes tokens.now)) result }
+) -> Result<(Statement, u32, &[Token]), Fault>
+    requires { nesting ≤ 201 }
+    ensures reads { Reads (spec.expression_statement shallow depth (spec.statements shallow depth) at nesting (lexemes tokens.now)) result }
 {
-    let deep = nesting + 1;
-    let (e, _, tokens) = optional(alloc, depth, Sign::Semicolon, deep, tokens)?;
-    Ok((Statement::Evaluate(at, e), tokens))
+    let (e, nesting, tokens) = optional(alloc, depth, Sign::Semicolon, nesting, tokens)?;
+    Ok((Statement::Evaluate(at, e), nesting, tokens))
 }
 
 #[tactic(auto, unfolding(crate::specs::Statements::block))]
@@ -238,13 +234,12 @@ fn block_statement(
     at: At,
     nesting: u32,
     tokens: &[Token],
-) -> Result<(Statement, &[Token]), Fault>
-    requires { nesting ≤ 200 }
-    ensures reads { ReadsAt nesting (phrase (spec.block_statement shallow depth (spec.statements shallow depth) at) nesting (lexemes tokens.now)) result }
+) -> Result<(Statement, u32, &[Token]), Fault>
+    requires { nesting ≤ 201 }
+    ensures reads { Reads (spec.block_statement shallow depth (spec.statements shallow depth) at nesting (lexemes tokens.now)) result }
 {
-    let deep = nesting + 1;
-    let (statements, tokens) = block(alloc, depth, deep, tokens)?;
-    Ok((Statement::Block(at, statements), tokens))
+    let (statements, tokens) = block(alloc, depth, nesting, tokens)?;
+    Ok((Statement::Block(at, statements), nesting, tokens))
 }
 
 /// What stands behind the first statement of an `if`.
@@ -276,16 +271,15 @@ fn if_statement(
     at: At,
     nesting: u32,
     tokens: &[Token],
-) -> Result<(Statement, &[Token]), Fault>
-    requires { nesting ≤ 200 }
-    ensures reads { ReadsAt nesting (phrase (spec.if_statement shallow depth (spec.statements shallow depth) at) nesting (lexemes tokens.now)) result }
+) -> Result<(Statement, u32, &[Token]), Fault>
+    requires { nesting ≤ 201 }
+    ensures reads { Reads (spec.if_statement shallow depth (spec.statements shallow depth) at nesting (lexemes tokens.now)) result }
 {
-    let deep = nesting + 1;
-    let tokens = eat(deep, tokens)?;
-    let (test, deep, tokens) = condition(alloc, depth, deep, tokens)?;
-    let (then, tokens) = inner(alloc, depth, deep, tokens)?;
-    let (other, tokens) = else_branch(alloc, depth, deep, tokens)?;
-    Ok((Statement::If(at, test, then, other), tokens))
+    let tokens = eat(nesting, tokens)?;
+    let (test, nesting, tokens) = condition(alloc, depth, nesting, tokens)?;
+    let (then, tokens) = inner(alloc, depth, nesting, tokens)?;
+    let (other, tokens) = else_branch(alloc, depth, nesting, tokens)?;
+    Ok((Statement::If(at, test, then, other), nesting, tokens))
 }
 
 #[tactic(auto, unfolding(crate::specs::Statements::while_statement))]
@@ -296,15 +290,14 @@ fn while_statement(
     at: At,
     nesting: u32,
     tokens: &[Token],
-) -> Result<(Statement, &[Token]), Fault>
-    requires { nesting ≤ 200 }
-    ensures reads { ReadsAt nesting (phrase (spec.while_statement shallow depth (spec.statements shallow depth) at) nesting (lexemes tokens.now)) result }
+) -> Result<(Statement, u32, &[Token]), Fault>
+    requires { nesting ≤ 201 }
+    ensures reads { Reads (spec.while_statement shallow depth (spec.statements shallow depth) at nesting (lexemes tokens.now)) result }
 {
-    let deep = nesting + 1;
-    let tokens = eat(deep, tokens)?;
-    let (test, deep, tokens) = condition(alloc, depth, deep, tokens)?;
-    let (body, tokens) = inner(alloc, depth, deep, tokens)?;
-    Ok((Statement::While(at, test, body), tokens))
+    let tokens = eat(nesting, tokens)?;
+    let (test, nesting, tokens) = condition(alloc, depth, nesting, tokens)?;
+    let (body, tokens) = inner(alloc, depth, nesting, tokens)?;
+    Ok((Statement::While(at, test, body), nesting, tokens))
 }
 
 #[tactic(auto, unfolding(crate::specs::Statements::do_statement))]
@@ -315,15 +308,14 @@ fn do_statement(
     at: At,
     nesting: u32,
     tokens: &[Token],
-) -> Result<(Statement, &[Token]), Fault>
-    requires { nesting ≤ 200 }
-    ensures reads { ReadsAt nesting (phrase (spec.do_statement shallow depth (spec.statements shallow depth) at) nesting (lexemes tokens.now)) result }
+) -> Result<(Statement, u32, &[Token]), Fault>
+    requires { nesting ≤ 201 }
+    ensures reads { Reads (spec.do_statement shallow depth (spec.statements shallow depth) at nesting (lexemes tokens.now)) result }
 {
-    let deep = nesting + 1;
-    let tokens = eat(deep, tokens)?;
-    let (body, tokens) = inner(alloc, depth, deep, tokens)?;
-    let (test, _, tokens) = do_end(alloc, depth, deep, tokens)?;
-    Ok((Statement::DoWhile(at, body, test), tokens))
+    let tokens = eat(nesting, tokens)?;
+    let (body, tokens) = inner(alloc, depth, nesting, tokens)?;
+    let (test, nesting, tokens) = do_end(alloc, depth, nesting, tokens)?;
+    Ok((Statement::DoWhile(at, body, test), nesting, tokens))
 }
 
 #[tactic(auto, unfolding(crate::specs::Statements::for_statement))]
@@ -334,14 +326,13 @@ fn for_statement(
     at: At,
     nesting: u32,
     tokens: &[Token],
-) -> Result<(Statement, &[Token]), Fault>
-    requires { nesting ≤ 200 }
-    ensures reads { ReadsAt nesting (phrase (spec.for_statement shallow depth (spec.statements shallow depth) at) nesting (lexemes tokens.now)) result }
+) -> Result<(Statement, u32, &[Token]), Fault>
+    requires { nesting ≤ 201 }
+    ensures reads { Reads (spec.for_statement shallow depth (spec.statements shallow depth) at nesting (lexemes tokens.now)) result }
 {
-    let deep = nesting + 1;
-    let ((start, test, step), deep, tokens) = for_header(alloc, depth, deep, tokens)?;
-    let (body, tokens) = inner(alloc, depth, deep, tokens)?;
-    Ok((Statement::For(at, start, test, step, body), tokens))
+    let ((start, test, step), nesting, tokens) = for_header(alloc, depth, nesting, tokens)?;
+    let (body, tokens) = inner(alloc, depth, nesting, tokens)?;
+    Ok((Statement::For(at, start, test, step, body), nesting, tokens))
 }
 
 #[tactic(auto, unfolding(crate::specs::Statements::switch_statement))]
@@ -352,15 +343,14 @@ fn switch_statement(
     at: At,
     nesting: u32,
     tokens: &[Token],
-) -> Result<(Statement, &[Token]), Fault>
-    requires { nesting ≤ 200 }
-    ensures reads { ReadsAt nesting (phrase (spec.switch_statement shallow depth (spec.statements shallow depth) at) nesting (lexemes tokens.now)) result }
+) -> Result<(Statement, u32, &[Token]), Fault>
+    requires { nesting ≤ 201 }
+    ensures reads { Reads (spec.switch_statement shallow depth (spec.statements shallow depth) at nesting (lexemes tokens.now)) result }
 {
-    let deep = nesting + 1;
-    let tokens = eat(deep, tokens)?;
-    let (e, deep, tokens) = condition(alloc, depth, deep, tokens)?;
-    let (statements, tokens) = block(alloc, depth, deep, tokens)?;
-    Ok((Statement::Switch(at, e, statements), tokens))
+    let tokens = eat(nesting, tokens)?;
+    let (e, nesting, tokens) = condition(alloc, depth, nesting, tokens)?;
+    let (statements, tokens) = block(alloc, depth, nesting, tokens)?;
+    Ok((Statement::Switch(at, e, statements), nesting, tokens))
 }
 
 #[tactic(auto, unfolding(crate::specs::Statements::case_statement))]
@@ -371,14 +361,13 @@ fn case_statement(
     at: At,
     nesting: u32,
     tokens: &[Token],
-) -> Result<(Statement, &[Token]), Fault>
-    requires { nesting ≤ 200 }
-    ensures reads { ReadsAt nesting (phrase (spec.case_statement shallow depth (spec.statements shallow depth) at) nesting (lexemes tokens.now)) result }
+) -> Result<(Statement, u32, &[Token]), Fault>
+    requires { nesting ≤ 201 }
+    ensures reads { Reads (spec.case_statement shallow depth (spec.statements shallow depth) at nesting (lexemes tokens.now)) result }
 {
-    let deep = nesting + 1;
-    let (value, tokens) = case_label(alloc, depth, deep, tokens)?;
-    let (body, tokens) = inner(alloc, depth, deep, tokens)?;
-    Ok((Statement::Case(at, value, body), tokens))
+    let (value, tokens) = case_label(alloc, depth, nesting, tokens)?;
+    let (body, tokens) = inner(alloc, depth, nesting, tokens)?;
+    Ok((Statement::Case(at, value, body), nesting, tokens))
 }
 
 #[tactic(auto, unfolding(crate::specs::Statements::default_statement))]
@@ -389,15 +378,43 @@ fn default_statement(
     at: At,
     nesting: u32,
     tokens: &[Token],
-) -> Result<(Statement, &[Token]), Fault>
-    requires { nesting ≤ 200 }
-    ensures reads { ReadsAt nesting (phrase (spec.default_statement shallow depth (spec.statements shallow depth) at) nesting (lexemes tokens.now)) result }
+) -> Result<(Statement, u32, &[Token]), Fault>
+    requires { nesting ≤ 201 }
+    ensures reads { Reads (spec.default_statement shallow depth (spec.statements shallow depth) at nesting (lexemes tokens.now)) result }
 {
-    let deep = nesting + 1;
-    let tokens = eat(deep, tokens)?;
-    let tokens = expect(Sign::Colon, deep, tokens)?;
-    let (body, tokens) = inner(alloc, depth, deep, tokens)?;
-    Ok((Statement::Default(at, body), tokens))
+    let tokens = eat(nesting, tokens)?;
+    let tokens = expect(Sign::Colon, nesting, tokens)?;
+    let (body, tokens) = inner(alloc, depth, nesting, tokens)?;
+    Ok((Statement::Default(at, body), nesting, tokens))
+}
+
+/// A statement, whose first token stands there.
+#[tactic(auto, unfolding(crate::specs::Statements::statement_at))]
+#[cycle(statements)]
+fn statement_at(
+    alloc: Global,
+    depth: usize,
+    at: At,
+    nesting: u32,
+    tokens: &[Token],
+) -> Result<(Statement, u32, &[Token]), Fault>
+    requires { nesting ≤ 201 }
+    ensures reads { Reads (spec.statement_at shallow depth (spec.statements shallow depth) at nesting (lexemes tokens.now)) result }
+{
+    match peek(tokens) {
+        Sign::LeftBrace => block_statement(alloc, depth, at, nesting, tokens),
+        Sign::If => if_statement(alloc, depth, at, nesting, tokens),
+        Sign::While => while_statement(alloc, depth, at, nesting, tokens),
+        Sign::Do => do_statement(alloc, depth, at, nesting, tokens),
+        Sign::For => for_statement(alloc, depth, at, nesting, tokens),
+        Sign::Switch => switch_statement(alloc, depth, at, nesting, tokens),
+        Sign::Case => case_statement(alloc, depth, at, nesting, tokens),
+        Sign::Default => default_statement(alloc, depth, at, nesting, tokens),
+        Sign::Break => break_statement(alloc, depth, at, nesting, tokens),
+        Sign::Continue => continue_statement(alloc, depth, at, nesting, tokens),
+        Sign::Return => return_statement(alloc, depth, at, nesting, tokens),
+        _ => expression_statement(alloc, depth, at, nesting, tokens),
+    }
 }
 
 /// A phrase that counts in the nesting.
@@ -415,20 +432,8 @@ fn statement(
         return Err(Fault::Out);
     }
     let at = place(tokens);
-    match peek(tokens) {
-        Sign::LeftBrace => block_statement(alloc, depth - 1, at, nesting, tokens),
-        Sign::If => if_statement(alloc, depth - 1, at, nesting, tokens),
-        Sign::While => while_statement(alloc, depth - 1, at, nesting, tokens),
-        Sign::Do => do_statement(alloc, depth - 1, at, nesting, tokens),
-        Sign::For => for_statement(alloc, depth - 1, at, nesting, tokens),
-        Sign::Switch => switch_statement(alloc, depth - 1, at, nesting, tokens),
-        Sign::Case => case_statement(alloc, depth - 1, at, nesting, tokens),
-        Sign::Default => default_statement(alloc, depth - 1, at, nesting, tokens),
-        Sign::Break => break_statement(alloc, depth - 1, at, nesting, tokens),
-        Sign::Continue => continue_statement(alloc, depth - 1, at, nesting, tokens),
-        Sign::Return => return_statement(alloc, depth - 1, at, nesting, tokens),
-        _ => expression_statement(alloc, depth - 1, at, nesting, tokens),
-    }
+    let (statement, _, tokens) = statement_at(alloc, depth - 1, at, nesting + 1, tokens)?;
+    Ok((statement, tokens))
 }
 
 /// A statement within another.
@@ -465,25 +470,6 @@ fn block_item(
     statement(alloc, depth, nesting, tokens)
 }
 
-/// The next part of a block, if it has not ended.
-#[tactic(auto, unfolding(crate::specs::Statements::next_item))]
-#[cycle(statements)]
-fn next_item(
-    alloc: Global,
-    depth: usize,
-    nesting: u32,
-    tokens: &[Token],
-) -> Result<(Option<Statement>, &[Token]), Fault>
-    requires { nesting ≤ 200 }
-    ensures reads { ReadsAt nesting (spec.next_item shallow depth (spec.statements shallow depth) nesting (lexemes tokens.now)) result }
-{
-    if peek(tokens) == Sign::RightBrace {
-        return Ok((None, eat(nesting, tokens)?));
-    }
-    let (item, tokens) = block_item(alloc, depth, nesting, tokens)?;
-    Ok((Some(item), tokens))
-}
-
 /// The statements of a block, behind its opening brace.
 #[cycle(statements)]
 fn statements(
@@ -499,10 +485,11 @@ fn statements(
     let mut rest = tokens;
     while depth > 0 {
         depth -= 1;
-        let (item, behind) = next_item(alloc, depth, nesting, rest)?;
-        let Some(item) = item else {
+        if peek(rest) == Sign::RightBrace {
+            let behind = eat(nesting, rest)?;
             return Ok((statements, behind));
-        };
+        }
+        let (item, behind) = block_item(alloc, depth, nesting, rest)?;
         statements.push(item)?;
         rest = behind;
     }

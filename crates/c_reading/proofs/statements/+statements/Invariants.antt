@@ -14,46 +14,46 @@ abbrev pub decreases-statements-loop-depth : goal.decreases-statements-loop-dept
 decreases-statements-loop-depth l = l.depth
 
 abbrev pub decreases-block : goal.decreases-block
-decreases-block l = 4 * l.depth + 1
+decreases-block l = 6 * l.depth + 1
 
 abbrev pub decreases-block_statement : goal.decreases-block_statement
-decreases-block_statement l = 4 * l.depth + 2
+decreases-block_statement l = 6 * l.depth + 2
 
 abbrev pub decreases-else_branch : goal.decreases-else_branch
-decreases-else_branch l = 4 * l.depth + 2
+decreases-else_branch l = 6 * l.depth + 2
 
 abbrev pub decreases-if_statement : goal.decreases-if_statement
-decreases-if_statement l = 4 * l.depth + 3
+decreases-if_statement l = 6 * l.depth + 3
 
 abbrev pub decreases-while_statement : goal.decreases-while_statement
-decreases-while_statement l = 4 * l.depth + 2
+decreases-while_statement l = 6 * l.depth + 2
 
 abbrev pub decreases-do_statement : goal.decreases-do_statement
-decreases-do_statement l = 4 * l.depth + 2
+decreases-do_statement l = 6 * l.depth + 2
 
 abbrev pub decreases-for_statement : goal.decreases-for_statement
-decreases-for_statement l = 4 * l.depth + 2
+decreases-for_statement l = 6 * l.depth + 2
 
 abbrev pub decreases-switch_statement : goal.decreases-switch_statement
-decreases-switch_statement l = 4 * l.depth + 2
+decreases-switch_statement l = 6 * l.depth + 2
 
 abbrev pub decreases-case_statement : goal.decreases-case_statement
-decreases-case_statement l = 4 * l.depth + 2
+decreases-case_statement l = 6 * l.depth + 2
 
 abbrev pub decreases-default_statement : goal.decreases-default_statement
-decreases-default_statement l = 4 * l.depth + 2
+decreases-default_statement l = 6 * l.depth + 2
 
 abbrev pub decreases-statement : goal.decreases-statement
-decreases-statement l = 4 * l.depth
+decreases-statement l = 6 * l.depth
 
 abbrev pub decreases-block_item : goal.decreases-block_item
-decreases-block_item l = 4 * l.depth + 1
-
-abbrev pub decreases-next_item : goal.decreases-next_item
-decreases-next_item l = 4 * l.depth + 2
+decreases-block_item l = 6 * l.depth + 1
 
 abbrev pub decreases-statements : goal.decreases-statements
-decreases-statements l = 4 * l.depth
+decreases-statements l = 6 * l.depth
 
 abbrev pub decreases-inner : goal.decreases-inner
-decreases-inner l = 4 * l.depth + 1
+decreases-inner l = 6 * l.depth + 1
+
+abbrev pub decreases-statement_at : goal.decreases-statement_at
+decreases-statement_at l = 6 * l.depth + 4

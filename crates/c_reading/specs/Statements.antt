@@ -250,22 +250,14 @@ module _ (T : ℕ → Bool) where
     s ← peek
     external_by d at s
 
-  -- the next part of a program, if it hasn't ended
-  unfoldable pub next_part : ℕ → Parser (Option External)
-  next_part d = do
-    s ← peek
-    if same s sign.End then pure None else (do
-      x ← external d
-      pure (Some x))
-
-  abbrev pub joined : List External → (List External → Parser (List External)) → Option External → Parser (List External)
-  joined xs goes_on None = pure xs
-  joined xs goes_on (Some x) = goes_on (xs ++ x ∷ [])
-
   -- the parts of a program behind those that were read, up to the end
   unfoldable pub parts : ℕ → List External → Parser (List External)
   parts zero xs = out
-  parts (suc d) xs = next_part d >>= joined xs (parts d)
+  parts (suc d) xs = do
+    s ← peek
+    if same s sign.End then pure xs else (do
+      x ← external d
+      parts d (xs ++ x ∷ []))
 
   abbrev pub program : ℕ → List Lexeme → Read (List External)
   program d ts = parts d [] 0 ts

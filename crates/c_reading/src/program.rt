@@ -1,9 +1,9 @@
 //! The reading of whole programs (C11 6.9).
 
-ghost use Rattle.std.specs.Prelude.{◌≡◌, ◌≤◌, []};
+ghost use Rattle.std.specs.Prelude.{◌≡◌, ◌≤◌, ◌+◌, ◌*◌, [], length};
 ghost use Rattle.c_grammar.specs.Words.{lexemes};
 ghost use Rattle.c_reading.specs.Statements as spec;
-ghost use Rattle.c_reading.specs.Ahead.{ReadsAt, shallow};
+ghost use Rattle.c_reading.specs.Ahead.{Answers, ReadsAt, shallow};
 
 use crate::declarations::{Opening, open_declaration};
 use crate::fault::Fault;
@@ -71,24 +71,6 @@ fn external(
     }
 }
 
-/// The next part of a program, if it has not ended.
-#[tactic(auto, unfolding(crate::specs::Statements::next_part))]
-fn next_part(
-    alloc: Global,
-    depth: usize,
-    nesting: u32,
-    tokens: &[Token],
-) -> Result<(Option<External>, &[Token]), Fault>
-    requires { nesting ≤ 200 }
-    ensures reads { ReadsAt nesting (spec.next_part shallow depth nesting (lexemes tokens.now)) result }
-{
-    if peek(tokens) == Sign::End {
-        return Ok((None, tokens));
-    }
-    let (part, tokens) = external(alloc, depth, nesting, tokens)?;
-    Ok((Some(part), tokens))
-}
-
 /// The parts of a program, and the tokens from the end on.
 #[tactic(auto, unfolding(crate::specs::Statements::parts))]
 pub fn parts(
@@ -104,12 +86,20 @@ pub fn parts(
     let mut rest = tokens;
     while depth > 0 {
         depth -= 1;
-        let (part, behind) = next_part(alloc, depth, nesting, rest)?;
-        let Some(part) = part else {
-            return Ok((parts, behind));
-        };
+        if peek(rest) == Sign::End {
+            return Ok((parts, rest));
+        }
+        let (part, behind) = external(alloc, depth, nesting, rest)?;
         parts.push(part)?;
         rest = behind;
     }
     Err(Fault::Out)
+}
+
+/// The parts of a program. The tokens end with the end of the text, which stands nowhere else.
+pub fn read(alloc: Global, tokens: &[Token]) -> Result<Items<External>, Fault>
+    ensures { Answers (spec.program shallow (8 * length tokens.now + 16) (lexemes tokens.now)) result }
+{
+    let (parts, _) = parts(alloc, 8 * tokens.len() + 16, 0, tokens)?;
+    Ok(parts)
 }

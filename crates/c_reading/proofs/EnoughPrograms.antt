@@ -1,6 +1,5 @@
 -- The same for declarations, statements and programs.
-use Rattle.std.proofs.Common.{ℕ, zero, suc, ◌+◌, ◌*◌, ◌<◌, ◌≤◌, Bool, true, false, List, [], ◌∷◌, ◌++◌, length, Option, Some, None, Ok, arith}
-use Rattle.std.specs.Prelude.{if◌then◌else◌}
+use Rattle.std.proofs.Common.{ℕ, zero, suc, ◌+◌, ◌*◌, ◌<◌, ◌≤◌, Bool, List, [], ◌∷◌, ◌++◌, length, Option, Some, None, Ok, arith}
 use Rattle.c_tree.specs.declared.token.At.{At}
 use Rattle.c_tree.specs.declared.syntax.Expr.{Expr}
 use Rattle.c_tree.specs.declared.syntax.Item.{Item}
@@ -15,7 +14,7 @@ use Rattle.c_grammar.specs.declared.sign.Sign.TheVariants as sign
 use Rattle.c_grammar.specs.Words.{Lexeme}
 use Rattle.c_reading.specs.declared.declarations.Opening.{Opening}
 use Rattle.c_reading.specs.declared.declarations.Opening.TheVariants as opening_
-use Rattle.c_reading.specs.Parsers.{Parser, and_then, pure, same, sign_at, eat, expect, name, name_if_any, more}
+use Rattle.c_reading.specs.Parsers.{Parser, and_then, same, sign_at, eat, expect, name, name_if_any, more}
 use Rattle.c_reading.specs.Trees.{begins_declaration}
 use Rattle.c_reading.specs.Expressions.{expr, assign, conditional, type_words, read}
 use Rattle.c_reading.specs.Declarations.{given_size, size, value_end, next_value, listed, values, value_by, value, initialiser, object, next_object, next_item, items, objects, parameter, next_parameter, parameter_list, parameters_by, parameters, heading, typed_opening, opening_by, opening, declared, declaration}

@@ -40,3 +40,9 @@ value_of (Err e) = Err e
 abbrev pub Answers : {A : Type 0} → Read A → Result A Fault → Type 0
 Answers r (Ok a) = value_of r ≡ Ok a
 Answers r (Err e) = Fails r e
+
+-- the bound on calls didn't run out
+abbrev pub NotOut : {A : Type 0} → Result A Fault → Type 0
+NotOut (Ok a) = Unit {0}
+NotOut (Err fault.Out) = ⊥
+NotOut (Err _) = Unit {0}

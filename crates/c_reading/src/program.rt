@@ -3,7 +3,7 @@
 ghost use Rattle.std.specs.Prelude.{◌≡◌, ◌≤◌, ◌+◌, ◌*◌, [], length};
 ghost use Rattle.c_grammar.specs.Words.{lexemes};
 ghost use Rattle.c_reading.specs.Statements as spec;
-ghost use Rattle.c_reading.specs.Ahead.{Answers, ReadsAt, shallow};
+ghost use Rattle.c_reading.specs.Ahead.{Answers, NotOut, ReadsAt, shallow};
 
 use crate::declarations::{Opening, open_declaration};
 use crate::fault::Fault;
@@ -98,8 +98,11 @@ pub fn parts(
 
 /// The parts of a program. The tokens end with the end of the text, which stands nowhere else.
 pub fn read(alloc: Global, tokens: &[Token]) -> Result<Items<External>, Fault>
-    ensures { Answers (spec.program shallow (8 * length tokens.now + 16) (lexemes tokens.now)) result }
+    ensures reads { Answers (spec.program shallow (8 * length tokens.now + 16) (lexemes tokens.now)) result }
+    ensures ends { NotOut result }
 {
-    let (parts, _) = parts(alloc, 8 * tokens.len() + 16, 0, tokens)?;
-    Ok(parts)
+    match parts(alloc, 8 * tokens.len() + 16, 0, tokens) {
+        Ok((parts, _)) => Ok(parts),
+        Err(fault) => Err(fault),
+    }
 }

@@ -1,1 +1,3 @@
 pub mod Deeper
+pub mod Enough
+pub mod EnoughPrograms

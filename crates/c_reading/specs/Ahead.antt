@@ -5,7 +5,7 @@ use Rattle.c_tree.specs.declared.token.Token.{Token}
 use Rattle.c_grammar.specs.Words.{lexemes}
 use Rattle.c_reading.specs.declared.fault.Fault.{Fault}
 use Rattle.c_reading.specs.declared.fault.Fault.TheVariants as fault
-use Rattle.c_reading.specs.Parsers.{Read, Parser, Wrong, Deep, Out}
+use Rattle.c_reading.specs.Parsers.{Read, Trouble, Wrong, Deep, Out}
 
 abbrev pub shallow : ℕ → Bool
 shallow n = nat_le n 200
@@ -31,3 +31,18 @@ ReadsAt n r (Err e) = Fails r e
 abbrev pub Passes : ℕ → Read (Unit {0}) → Result (Bor (List Token)) Fault → Type 0
 Passes n r (Ok rest) = r ≡ Ok (tt, n, lexemes rest.now)
 Passes n r (Err e) = Fails r e
+
+-- what is read, alone
+abbrev pub value_of : {A : Type 0} → Read A → Result A Trouble
+value_of (Ok x) = Ok x.0
+value_of (Err e) = Err e
+
+abbrev pub Answers : {A : Type 0} → Read A → Result A Fault → Type 0
+Answers r (Ok a) = value_of r ≡ Ok a
+Answers r (Err e) = Fails r e
+
+-- the bound on calls didn't run out
+abbrev pub NotOut : {A : Type 0} → Result A Fault → Type 0
+NotOut (Ok a) = Unit {0}
+NotOut (Err fault.Out) = ⊥
+NotOut (Err _) = Unit {0}

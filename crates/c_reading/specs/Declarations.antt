@@ -1,5 +1,5 @@
 -- The reading of declarations (C11 6.7), for those that the grammar has.
-use Rattle.std.specs.Prelude.{ℕ, zero, suc, Bool, true, false, if◌then◌else◌, List, [], ◌∷◌, ◌++◌}
+use Rattle.std.specs.Prelude.{ℕ, zero, suc, Bool, true, false, if◌then◌else◌, List, [], ◌∷◌, ◌++◌, Option, Some, None}
 use Rattle.c_tree.specs.declared.token.At.{At}
 use Rattle.c_tree.specs.declared.syntax.Expr.{Expr}
 use Rattle.c_tree.specs.declared.syntax.TypeWords.{TypeWords}
@@ -26,30 +26,44 @@ module _ (T : ℕ → Bool) where
   -- ---- declared names
 
   module _ (R : Reader) where
-    abbrev pub size_by : Sign → Parser Size
-    size_by sign.RightBracket = eat T >> pure size_.Absent
-    size_by _ = do
-      e ← phrase (R conditional)
-      expect T sign.RightBracket
-      pure (size_.Given e)
-
     -- behind the opening bracket
     unfoldable pub given_size : Parser Size
-    given_size = peek >>= size_by
+    given_size = do
+      s ← peek
+      if same s sign.RightBracket then eat T >> pure size_.Absent else (do
+        e ← phrase (R conditional)
+        expect T sign.RightBracket
+        pure (size_.Given e))
 
     unfoldable pub size : Parser Size
     size = do
       s ← peek
       if same s sign.LeftBracket then eat T >> given_size else pure size_.Scalar
 
-  -- the values in braces behind those that were read; a comma may stand behind the last one
+  -- behind a value in braces: where it is the last one, whether a comma stands behind it
+  unfoldable pub value_end : Parser (Option Bool)
+  value_end = do
+    goes_on ← more T sign.RightBrace
+    s ← peek
+    if goes_on then (if same s sign.RightBrace then eat T >> pure (Some true) else pure None) else pure (Some false)
+
+  unfoldable pub next_value : ℕ → Parser (Expr × Option Bool)
+  next_value d = do
+    x ← read T d assign
+    end ← value_end
+    pure (x, end)
+
+  -- the list that ends here, or what goes on
+  abbrev pub listed : List Expr → Parser Initialiser → Option Bool → Parser Initialiser
+  listed es p None = p
+  listed es p (Some comma) = pure (initialiser_.List es comma)
+
+  -- the values in braces behind those that were read
   unfoldable pub values : ℕ → List Expr → Parser Initialiser
   values zero es = out
   values (suc d) es = do
-    x ← read T d assign
-    goes_on ← more T sign.RightBrace
-    s ← peek
-    if goes_on then (if same s sign.RightBrace then eat T >> pure (initialiser_.List (es ++ x ∷ []) true) else values d (es ++ x ∷ [])) else pure (initialiser_.List (es ++ x ∷ []) false)
+    x ← next_value d
+    listed (es ++ x.0 ∷ []) (values d (es ++ x.0 ∷ [])) x.1
 
   abbrev pub value_by : ℕ → Sign → Parser Initialiser
   value_by d sign.LeftBrace = eat T >> values d []
@@ -73,26 +87,31 @@ module _ (T : ℕ → Bool) where
     i ← initialiser d
     pure (record { at = at; name = n; size = z; initialiser = i })
 
-  unfoldable pub item : ℕ → Parser Item
-  item d = do
+  -- an object, and whether a comma stands behind it
+  unfoldable pub next_object : ℕ → At → List ℕ → Parser (Item × Bool)
+  next_object d at n = do
+    i ← object d at n
+    goes_on ← more T sign.Semicolon
+    pure (i, goes_on)
+
+  unfoldable pub next_item : ℕ → Parser (Item × Bool)
+  next_item d = do
     at ← place
     n ← name T
-    object d at n
+    next_object d at n
 
   -- the objects behind those that were read, up to the semicolon
   unfoldable pub items : ℕ → List Item → Parser (List Item)
   items zero is = out
   items (suc d) is = do
-    i ← item d
-    goes_on ← more T sign.Semicolon
-    if goes_on then items d (is ++ i ∷ []) else pure (is ++ i ∷ [])
+    x ← next_item d
+    if x.1 then items d (is ++ x.0 ∷ []) else pure (is ++ x.0 ∷ [])
 
   -- the objects, where the first one's name was read
   unfoldable pub objects : ℕ → At → List ℕ → Parser (List Item)
   objects d at n = do
-    i ← object d at n
-    goes_on ← more T sign.Semicolon
-    if goes_on then items d (i ∷ []) else pure (i ∷ [])
+    x ← next_object d at n
+    if x.1 then items d (x.0 ∷ []) else pure (x.0 ∷ [])
 
   -- ---- parameters
 
@@ -103,13 +122,19 @@ module _ (T : ℕ → Bool) where
     n ← name_if_any T
     pure (record { at = at; words = w; name = n })
 
+  -- a parameter, and whether a comma stands behind it
+  unfoldable pub next_parameter : Parser (Parameter × Bool)
+  next_parameter = do
+    p ← parameter
+    goes_on ← more T sign.RightParen
+    pure (p, goes_on)
+
   -- the parameters behind those that were read, up to the closing parenthesis
   unfoldable pub parameter_list : ℕ → List Parameter → Parser Parameters
   parameter_list zero ps = out
   parameter_list (suc d) ps = do
-    p ← parameter
-    goes_on ← more T sign.RightParen
-    if goes_on then parameter_list d (ps ++ p ∷ []) else pure (parameters_.List (ps ++ p ∷ []))
+    x ← next_parameter
+    if x.1 then parameter_list d (ps ++ x.0 ∷ []) else pure (parameters_.List (ps ++ x.0 ∷ []))
 
   abbrev pub parameters_by : ℕ → Sign → Parser Parameters
   parameters_by d sign.RightParen = eat T >> pure parameters_.Empty

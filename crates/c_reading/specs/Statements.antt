@@ -193,6 +193,10 @@ module _ (T : ℕ → Bool) where
     statement_by at sign.Return = return_statement at
     statement_by at _ = expression_statement at
 
+    -- a statement, whose first word stands there
+    unfoldable pub statement_at : At → Parser Statement
+    statement_at at = peek >>= statement_by at
+
     -- a statement or a declaration of a block
     unfoldable pub block_item : Parser Statement
     block_item = do
@@ -210,10 +214,7 @@ module _ (T : ℕ → Bool) where
 
     abbrev pub statements_step : Statements
     statements_step = record {
-      one = phrase (do
-        at ← place
-        s ← peek
-        statement_by at s);
+      one = phrase (place >>= statement_at);
       rest = block_rest;
     }
 

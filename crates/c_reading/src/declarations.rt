@@ -37,13 +37,11 @@ fn given_size(
     requires { nesting ≤ 200 }
     ensures reads { ReadsAt nesting (spec.given_size shallow (read shallow depth) nesting (lexemes tokens.now)) result }
 {
-    match peek(tokens) {
-        Sign::RightBracket => Ok((Size::Absent, eat(nesting, tokens)?)),
-        _ => {
-            let (e, _, tokens) = conditional(alloc, depth, nesting + 1, tokens)?;
-            Ok((Size::Given(e), expect(Sign::RightBracket, nesting, tokens)?))
-        }
+    if peek(tokens) == Sign::RightBracket {
+        return Ok((Size::Absent, eat(nesting, tokens)?));
     }
+    let (e, _, tokens) = conditional(alloc, depth, nesting + 1, tokens)?;
+    Ok((Size::Given(e), expect(Sign::RightBracket, nesting, tokens)?))
 }
 
 #[tactic(auto, unfolding(crate::specs::Declarations::size))]
@@ -64,6 +62,36 @@ fn size(
     }
 }
 
+/// Behind a value in braces: where it is the last one, whether a comma stands behind it.
+#[tactic(auto, unfolding(crate::specs::Declarations::value_end))]
+fn value_end(nesting: u32, tokens: &[Token]) -> Result<(Option<bool>, &[Token]), Fault>
+    ensures reads { ReadsAt nesting (spec.value_end shallow nesting (lexemes tokens.now)) result }
+{
+    let (goes_on, tokens) = more(Sign::RightBrace, nesting, tokens)?;
+    if !goes_on {
+        Ok((Some(false), tokens))
+    } else if peek(tokens) == Sign::RightBrace {
+        Ok((Some(true), eat(nesting, tokens)?))
+    } else {
+        Ok((None, tokens))
+    }
+}
+
+#[tactic(auto, unfolding(crate::specs::Declarations::next_value))]
+fn next_value(
+    alloc: Global,
+    depth: usize,
+    nesting: u32,
+    tokens: &[Token],
+) -> Result<((Expr, Option<bool>), &[Token]), Fault>
+    requires { nesting ≤ 200 }
+    ensures reads { ReadsAt nesting (spec.next_value shallow depth nesting (lexemes tokens.now)) result }
+{
+    let (e, tokens) = assignment(alloc, depth, nesting, tokens)?;
+    let (end, tokens) = value_end(nesting, tokens)?;
+    Ok(((e, end), tokens))
+}
+
 /// The values in braces, behind the opening one.
 #[tactic(auto, unfolding(crate::specs::Declarations::values))]
 fn values(
@@ -79,14 +107,10 @@ fn values(
     let mut rest = tokens;
     while depth > 0 {
         depth -= 1;
-        let (e, behind) = assignment(alloc, depth, nesting, rest)?;
+        let ((e, end), behind) = next_value(alloc, depth, nesting, rest)?;
         values.push(e)?;
-        let (goes_on, behind) = more(Sign::RightBrace, nesting, behind)?;
-        if !goes_on {
-            return Ok((Initialiser::List(values, false), behind));
-        }
-        if peek(behind) == Sign::RightBrace {
-            return Ok((Initialiser::List(values, true), eat(nesting, behind)?));
+        if let Some(comma) = end {
+            return Ok((Initialiser::List(values, comma), behind));
         }
         rest = behind;
     }
@@ -158,19 +182,36 @@ fn object(
     Ok((item, tokens))
 }
 
-#[tactic(auto, unfolding(crate::specs::Declarations::item))]
-fn item(
+/// An object, and whether a comma stands behind it.
+#[tactic(auto, unfolding(crate::specs::Declarations::next_object))]
+fn next_object(
+    alloc: Global,
+    depth: usize,
+    at: At,
+    name: Items<u8>,
+    nesting: u32,
+    tokens: &[Token],
+) -> Result<((Item, bool), &[Token]), Fault>
+    requires { nesting ≤ 200 }
+    ensures reads { ReadsAt nesting (spec.next_object shallow depth at name nesting (lexemes tokens.now)) result }
+{
+    let (item, tokens) = object(alloc, depth, at, name, nesting, tokens)?;
+    let (goes_on, tokens) = more(Sign::Semicolon, nesting, tokens)?;
+    Ok(((item, goes_on), tokens))
+}
+
+#[tactic(auto, unfolding(crate::specs::Declarations::next_item))]
+fn next_item(
     alloc: Global,
     depth: usize,
     nesting: u32,
     tokens: &[Token],
-) -> Result<(Item, &[Token]), Fault>
-    requires { nesting ≤ 200 }
-    ensures reads { ReadsAt nesting (spec.item shallow depth nesting (lexemes tokens.now)) result }
+) -> Result<((Item, bool), &[Token]), Fault>
+    ensures reads { ReadsAt nesting (spec.next_item shallow depth nesting (lexemes tokens.now)) result }
 {
     let at = place(tokens);
     let (name, tokens) = name(alloc, nesting, tokens)?;
-    object(alloc, depth, at, name, nesting, tokens)
+    next_object(alloc, depth, at, name, nesting, tokens)
 }
 
 /// The objects behind those that were read, up to the semicolon.
@@ -182,15 +223,13 @@ fn items_behind(
     nesting: u32,
     tokens: &[Token],
 ) -> Result<(Items<Item>, &[Token]), Fault>
-    requires { nesting ≤ 200 }
     ensures reads { ReadsAt nesting (spec.items shallow depth items nesting (lexemes tokens.now)) result }
 {
     let mut rest = tokens;
     while depth > 0 {
         depth -= 1;
-        let (item, behind) = item(alloc, depth, nesting, rest)?;
+        let ((item, goes_on), behind) = next_item(alloc, depth, nesting, rest)?;
         items.push(item)?;
-        let (goes_on, behind) = more(Sign::Semicolon, nesting, behind)?;
         if !goes_on {
             return Ok((items, behind));
         }
@@ -212,10 +251,9 @@ fn objects(
     requires { nesting ≤ 200 }
     ensures reads { ReadsAt nesting (spec.objects shallow depth at name nesting (lexemes tokens.now)) result }
 {
-    let (first, tokens) = object(alloc, depth, at, name, nesting, tokens)?;
+    let ((first, goes_on), tokens) = next_object(alloc, depth, at, name, nesting, tokens)?;
     let mut items = Items::new(alloc);
     items.push(first)?;
-    let (goes_on, tokens) = more(Sign::Semicolon, nesting, tokens)?;
     if goes_on {
         items_behind(alloc, depth, items, nesting, tokens)
     } else {
@@ -233,6 +271,20 @@ fn parameter(alloc: Global, nesting: u32, tokens: &[Token]) -> Result<(Parameter
     Ok((Parameter { at, words, name }, tokens))
 }
 
+/// A parameter, and whether a comma stands behind it.
+#[tactic(auto, unfolding(crate::specs::Declarations::next_parameter))]
+fn next_parameter(
+    alloc: Global,
+    nesting: u32,
+    tokens: &[Token],
+) -> Result<((Parameter, bool), &[Token]), Fault>
+    ensures reads { ReadsAt nesting (spec.next_parameter shallow nesting (lexemes tokens.now)) result }
+{
+    let (parameter, tokens) = parameter(alloc, nesting, tokens)?;
+    let (goes_on, tokens) = more(Sign::RightParen, nesting, tokens)?;
+    Ok(((parameter, goes_on), tokens))
+}
+
 #[tactic(auto, unfolding(crate::specs::Declarations::parameter_list))]
 fn parameter_list(
     alloc: Global,
@@ -246,9 +298,8 @@ fn parameter_list(
     let mut rest = tokens;
     while depth > 0 {
         depth -= 1;
-        let (parameter, behind) = parameter(alloc, nesting, rest)?;
+        let ((parameter, goes_on), behind) = next_parameter(alloc, nesting, rest)?;
         parameters.push(parameter)?;
-        let (goes_on, behind) = more(Sign::RightParen, nesting, behind)?;
         if !goes_on {
             return Ok((Parameters::List(parameters), behind));
         }

@@ -1,4 +1,4 @@
-use Rattle.std.proofs.Common.{◌≡◌, ℕ, [], ◌*◌, ◌+◌, ◌≤◌}
+use Rattle.std.proofs.Common.{◌≡◌, [], ◌*◌, ◌+◌, ◌≤◌}
 use Rattle.c_grammar.specs.Words.{lexemes}
 use Rattle.c_reading.specs.Expressions.{read, in_call}
 use Rattle.c_reading.specs.Ahead.{shallow}

@@ -1,5 +1,5 @@
 -- A reading with calls left is one step, which ends in a call.
-use Rattle.std.proofs.Common.{◌≡◌, refl, sym, rules, arith}
+use Rattle.std.proofs.Common.{rules, arith}
 use Rattle.c_grammar.specs.Words.{lexemes}
 use Rattle.c_reading.specs.Expressions as spec
 use Rattle.c_reading.specs.Ahead.{shallow}

@@ -1,4 +1,4 @@
-use Rattle.std.proofs.Common.{ℕ, ◌*◌, ◌+◌}
+use Rattle.std.proofs.Common.{◌*◌, ◌+◌}
 use Rattle.c_reading.proofs.expressions.+steps.Given as goal
 
 abbrev pub decreases-more_steps : goal.decreases-more_steps

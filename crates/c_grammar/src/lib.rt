@@ -1,0 +1,6 @@
+//! The grammar of C (C11 6.5 to 6.9): which tree a list of tokens spells.
+#![tactic(auto)]
+
+mod sign;
+
+pub use sign::{sign_of, Sign};

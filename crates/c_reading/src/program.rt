@@ -1,0 +1,108 @@
+//! The reading of whole programs (C11 6.9).
+
+ghost use Rattle.std.specs.Prelude.{◌≡◌, ◌≤◌, ◌+◌, ◌*◌, [], length};
+ghost use Rattle.c_grammar.specs.Words.{lexemes};
+ghost use Rattle.c_reading.specs.Statements as spec;
+ghost use Rattle.c_reading.specs.Ahead.{Answers, NotOut, ReadsAt, shallow};
+
+use crate::declarations::{Opening, open_declaration};
+use crate::fault::Fault;
+use crate::statements::block;
+use crate::tokens::{eat, expect, peek, place};
+use c_grammar::Sign;
+use c_tree::Token;
+use c_tree::syntax::{Declaration, External};
+use sqlite_items::Items;
+use std::alloc::Global;
+
+/// What stands behind the opening of a part.
+#[tactic(auto, unfolding(crate::specs::Statements::part))]
+fn part(
+    alloc: Global,
+    depth: usize,
+    opening: Opening,
+    nesting: u32,
+    tokens: &[Token],
+) -> Result<(External, &[Token]), Fault>
+    requires { nesting ≤ 200 }
+    ensures reads { ReadsAt nesting (spec.part shallow depth opening nesting (lexemes tokens.now)) result }
+{
+    match opening {
+        Opening::Objects(declaration) => Ok((External::Declared(declaration), tokens)),
+        Opening::Function(at, gives, name, parameters) => {
+            if peek(tokens) == Sign::LeftBrace {
+                let (body, tokens) = block(alloc, depth, nesting, tokens)?;
+                let part = External::Defined {
+                    at,
+                    gives,
+                    name,
+                    parameters,
+                    body,
+                };
+                return Ok((part, tokens));
+            }
+            let tokens = expect(Sign::Semicolon, nesting, tokens)?;
+            let declaration = Declaration::Function(at, gives, name, parameters);
+            Ok((External::Declared(declaration), tokens))
+        }
+    }
+}
+
+#[tactic(auto, unfolding(crate::specs::Statements::external))]
+fn external(
+    alloc: Global,
+    depth: usize,
+    nesting: u32,
+    tokens: &[Token],
+) -> Result<(External, &[Token]), Fault>
+    requires { nesting ≤ 200 }
+    ensures reads { ReadsAt nesting (spec.external shallow depth nesting (lexemes tokens.now)) result }
+{
+    match peek(tokens) {
+        Sign::Include => {
+            let at = place(tokens);
+            let tokens = eat(nesting, tokens)?;
+            Ok((External::Include(at), tokens))
+        }
+        _ => {
+            let (opening, tokens) = open_declaration(alloc, depth, nesting, tokens)?;
+            part(alloc, depth, opening, nesting, tokens)
+        }
+    }
+}
+
+/// The parts of a program, and the tokens from the end on.
+#[tactic(auto, unfolding(crate::specs::Statements::parts))]
+pub fn parts(
+    alloc: Global,
+    mut depth: usize,
+    nesting: u32,
+    tokens: &[Token],
+) -> Result<(Items<External>, &[Token]), Fault>
+    requires { nesting ≤ 200 }
+    ensures reads { ReadsAt nesting (spec.parts shallow depth [] nesting (lexemes tokens.now)) result }
+{
+    let mut parts = Items::new(alloc);
+    let mut rest = tokens;
+    while depth > 0 {
+        depth -= 1;
+        if peek(rest) == Sign::End {
+            return Ok((parts, rest));
+        }
+        let (part, behind) = external(alloc, depth, nesting, rest)?;
+        parts.push(part)?;
+        rest = behind;
+    }
+    Err(Fault::Out)
+}
+
+/// The parts of a program. The tokens end with the end of the text, which stands nowhere else.
+pub fn read(alloc: Global, tokens: &[Token]) -> Result<Items<External>, Fault>
+    ensures reads { Answers (spec.program shallow (8 * length tokens.now + 16) (lexemes tokens.now)) result }
+    ensures ends { NotOut result }
+{
+    match parts(alloc, 8 * tokens.len() + 16, 0, tokens) {
+        Ok((parts, _)) => Ok(parts),
+        Err(fault) => Err(fault),
+    }
+}

@@ -50,7 +50,6 @@ use Rattle.c_parser.proofs.ExprRuns.{prec_high}
 use Rattle.c_parser.proofs.DeclComplete.{joined_other, joined_close}
 use Rattle.c_parser.proofs.Fill.{trail_last, trail_snoc, fit_append, at_self, same_self, lead_first, hole_low, stands_it, text_have, Ok_have, filled_text, filled_ok}
 use Rattle.c_parser.proofs.Text.{trail, argument, object, a_parameter, items, tops, text_unders, ok_items, ok_unders, text_home, ok_home, text_type, text_naming, ok_naming, text_heading, text_use, ok_use, place, begun, text_frames, ok_frames, low, lead, ending}
-
 use denote.Enum.Bare.{same_true}
 use Rattle.c_grammar.specs.contracts.sign.Sign.{the_type}
 use Rattle.std.proofs.Common.{rules}

@@ -159,7 +159,7 @@ fill_text (m.paren at) e fs u r = ap (λ (s : Said). s.leaves (first fs u) r) (s
 fill_text (m.element at n) e fs u r = ap (λ (s : Said). s.leaves (first fs u) r) (said_element at n e)
 fill_text (m.arguments at n es) e fs u r = ap (λ (s : Said). s.leaves (first fs u) r) (said_call at n (es ++ e ∷ []))
     ∙ ap (λ l. leaf (a_name n) (Some at) (first fs u) ∷ leaf (a_sign sign.LeftParen) None (first fs u) ∷ l)
-      (ap (λ ps. leaves_of ps (first fs u) r) (trail_last argument about assign (λ x. refl) es e (the_sign sign.RightParen ∷ [])) ∙ trail_leaves about 1 es (argument e ∷ the_sign sign.RightParen ∷ []) (first fs u) r)
+    (ap (λ ps. leaves_of ps (first fs u) r) (trail_last argument about assign (λ x. refl) es e (the_sign sign.RightParen ∷ [])) ∙ trail_leaves about 1 es (argument e ∷ the_sign sign.RightParen ∷ []) (first fs u) r)
 
 pub stands_it : (k : ℕ) (S : Said) → k ≤ S.level → S.fits ≡ true → stands k S ≡ true
 stands_it k S h f = and_from _ _ (le-leb k S.level h) f

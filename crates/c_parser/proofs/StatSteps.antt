@@ -50,7 +50,6 @@ use Rattle.c_parser.proofs.ExprRuns.{prec_high}
 use Rattle.c_parser.proofs.DeclComplete.{joined_other}
 use Rattle.c_parser.proofs.Fill.{trail_last, trail_snoc, fit_append, at_self, same_self, lead_first, hole_low, stands_it, text_have, Ok_have, filled_text, filled_ok}
 use Rattle.c_parser.proofs.Text.{trail, argument, object, a_parameter, items, tops, text_unders, ok_items, ok_unders, text_home, ok_home, text_type, text_naming, ok_naming, text_heading, text_use, ok_use, place, begun, text_frames, ok_frames, low, lead, ending}
-
 use denote.Enum.Bare.{same_true}
 use Rattle.c_grammar.specs.contracts.sign.Sign.{the_type}
 use Rattle.std.proofs.Common.{rules}
@@ -174,10 +173,16 @@ module _ (xs : Taken) (t : Lexeme) where
 
   pub close_reached : (us : List Under) → sign_of_word t.word ≡ sign.RightBrace → Pre xs (text_unders us) → ok_unders us → Stepped xs t (close_block us)
   close_reached [] w p ok = tt
-  close_reached (m.in_block at ss ∷ us) w p ok = (none_at xs t _ (Stat_text (tree_.Block at ss) us) sign.RightBrace _ w refl p (λ r. ap (λ (s : Said). text_unders us (s.leaves (suc (inside us)) r)) (told_block at ss) ∙ ap (λ l. text_unders us (leaf (a_sign sign.LeftBrace) (Some at) (suc (suc (inside us))) ∷ l)) (each_items about_statement ss (the_sign sign.RightBrace ∷ []) (suc (suc (inside us))) r)), ok.1,
-      ap (λ (s : Said). stands 2 s) (told_block at ss) ∙ and_from _ _ (same_self at) (and_from _ _ (fit_append (items ss) (the_sign sign.RightBrace ∷ []) ok.0 refl) refl))
-  close_reached (m.in_switch at e ss ∷ us) w p ok = (none_at xs t _ (Stat_text (tree_.Switch at e ss) us) sign.RightBrace _ w refl p (λ r. ap (λ (s : Said). text_unders us (s.leaves (suc (inside us)) r)) (told_switch at e ss) ∙ ap (λ l. text_unders us (leaves_at at (the_sign sign.Switch ∷ condition e []) (suc (inside us)) (leaf (a_sign sign.LeftBrace) None (suc (behind (suc (inside us)) (about e))) ∷ l))) (each_items about_statement ss (the_sign sign.RightBrace ∷ []) (suc (behind (suc (inside us)) (about e))) r)), ok.2,
-      ap (λ (s : Said). stands 2 s) (told_switch at e ss) ∙ and_from _ _ (and_parts _ _ ok.0).0 (and_from _ _ (fit_append (items ss) (the_sign sign.RightBrace ∷ []) ok.1 refl) refl))
+  close_reached (m.in_block at ss ∷ us) w p ok = (
+    none_at xs t _ (Stat_text (tree_.Block at ss) us) sign.RightBrace _ w refl p (λ r. ap (λ (s : Said). text_unders us (s.leaves (suc (inside us)) r)) (told_block at ss) ∙ ap (λ l. text_unders us (leaf (a_sign sign.LeftBrace) (Some at) (suc (suc (inside us))) ∷ l)) (each_items about_statement ss (the_sign sign.RightBrace ∷ []) (suc (suc (inside us))) r)),
+    ok.1,
+    ap (λ (s : Said). stands 2 s) (told_block at ss) ∙ and_from _ _ (same_self at) (and_from _ _ (fit_append (items ss) (the_sign sign.RightBrace ∷ []) ok.0 refl) refl),
+  )
+  close_reached (m.in_switch at e ss ∷ us) w p ok = (
+    none_at xs t _ (Stat_text (tree_.Switch at e ss) us) sign.RightBrace _ w refl p (λ r. ap (λ (s : Said). text_unders us (s.leaves (suc (inside us)) r)) (told_switch at e ss) ∙ ap (λ l. text_unders us (leaves_at at (the_sign sign.Switch ∷ condition e []) (suc (inside us)) (leaf (a_sign sign.LeftBrace) None (suc (behind (suc (inside us)) (about e))) ∷ l))) (each_items about_statement ss (the_sign sign.RightBrace ∷ []) (suc (behind (suc (inside us)) (about e))) r)),
+    ok.2,
+    ap (λ (s : Said). stands 2 s) (told_switch at e ss) ∙ and_from _ _ (and_parts _ _ ok.0).0 (and_from _ _ (fit_append (items ss) (the_sign sign.RightBrace ∷ []) ok.1 refl) refl),
+  )
   close_reached (m.in_body ps at g n qs ss ∷ us) w p ok = (none_at xs t _ (λ r. leaves_of (tops (ps ++ external.Defined at g n qs ss ∷ [])) 0 r) sign.RightBrace _ w refl p (λ r. tops_snoc ps (external.Defined at g n qs ss) r ∙ ap (λ l. leaves_of (tops ps) 0 l) (defined_text at g n qs ss r)), tops_fit ps (external.Defined at g n qs ss) ok.0 (defined_fit at g n qs ss ok.1 ok.2))
   close_reached (_ ∷ us) w p ok = tt
 
@@ -218,7 +223,7 @@ module _ (xs : Taken) (t : Lexeme) where
   settled (m.in_if at e ∷ us) x s w ok f = stepped_on xs t s sign.Else _ _
       (λ h. (none_at xs t _ (text_unders (m.in_else at e x ∷ us)) sign.Else _ (w ∙ h) refl f.text (λ r. refl), (and_from _ _ (and_parts _ _ ok.0).0 (and_from _ _ (stands_it 2 (about_statement x) (omega (arith, f.level, ap before_word h)) f.fits) refl), ok.1)))
       (λ h. let g = fill_if xs at e us x ok.0 (record { text = f.text; level = omega (arith, f.level, low_word s); fits = f.fits }) in
-        settled us (tree_.If at e x None) s w ok.1 (record { text = g.text; level = omega (arith, g.level, no_else s h); fits = g.fits }))
+      settled us (tree_.If at e x None) s w ok.1 (record { text = g.text; level = omega (arith, g.level, no_else s h); fits = g.fits }))
   settled (m.in_else at e a ∷ us) x s w ok f = settled us (tree_.If at e a (Some x)) s w ok.1 (fill_else xs at e a us x (before_word s) (low_word s) ok.0 f)
   settled (m.in_while at e ∷ us) x s w ok f = settled us (tree_.While at e x) s w ok.1 (fill_while xs at e us x (before_word s) (low_word s) ok.0 f)
   settled (m.in_for at b y n ∷ us) x s w ok f = settled us (tree_.For at b y n x) s w ok.1 (fill_for xs at b y n us x (before_word s) (low_word s) ok.0 f)

@@ -1,6 +1,7 @@
 -- Only the last token of a text is the end.
-use Rattle.std.proofs.Common.{◌≡◌, ℕ, List, [], ◌∷◌, ◌++◌, Option, Some, None, Result, Ok, Err, refl, ap, ◌∙◌}
+use Rattle.std.proofs.Common.{◌≡◌, ℕ, Bool, List, [], ◌∷◌, ◌++◌, Option, Some, None, Result, Ok, Err, refl, ap, ◌∙◌}
 use Rattle.std.specs.List.{All}
+use Rattle.std.proofs.lemmas.List.Elements.{All-nil, All-cons}
 use Rattle.c_tree.specs.declared.token.At.{At}
 use Rattle.c_tree.specs.declared.token.Token.{Token}
 use Rattle.c_tree.specs.declared.token.TokenKind.{TokenKind}
@@ -37,13 +38,13 @@ piece_no_end : (c : Cursor) (text : List ℕ) (p : Piece) → piece_behind c tex
 unfolding next_piece
 piece_no_end c text p e h = judged_no_end c.line (place_of c.before) text (is_fresh c.line) (piece_at (is_fresh c.line) text) p refl e h
 
-abbrev NoEnd : List Token → Type 0
-NoEnd = All (λ t. t.kind ≡ kind.End → ⊥)
+abbrev pub IsNoEnd : Token → Type 0
+IsNoEnd t = t.kind ≡ kind.End → ⊥
 
-put : (at : At) (o : Option TokenKind) (tokens : List Token) → (o ≡ Some kind.End → ⊥) → NoEnd tokens → NoEnd (token_at at o ++ tokens)
-put at None tokens no all = all
-put at (Some k) tokens no all = (λ e. no (ap (λ k. Some k) e), all)
+put : (at : At) (o : Option TokenKind) (tokens : List Token) → (o ≡ Some kind.End → ⊥) → All IsNoEnd tokens → All IsNoEnd (token_at at o ++ tokens)
+put at None tokens other all = all
+put at (Some k) tokens other all = All-cons IsNoEnd (record { kind = k; at = at }) tokens (λ e. other (ap (λ k. Some k) e)) all
 
-pub no_end : (c : Cursor) (pieces : List Piece) → ArePieces c pieces [] → All (λ t. t.kind ≡ kind.End → ⊥) (tokens_of c pieces)
-no_end c [] h = tt
+pub no_end : (c : Cursor) (pieces : List Piece) → ArePieces c pieces [] → All IsNoEnd (tokens_of c pieces)
+no_end c [] h = All-nil IsNoEnd
 no_end c (p ∷ pieces) h = put (place_of c.before) p.token (tokens_of (moved c p) pieces) (piece_no_end c _ p h.0) (no_end (moved c p) pieces h.1)

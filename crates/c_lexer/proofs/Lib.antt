@@ -4,4 +4,4 @@ mod Positions
 mod Reaching
 mod Unique
 mod Longest
-mod Ends
+pub mod Ends

@@ -4,12 +4,13 @@ use Rattle.std.specs.List.{All, list_all}
 use Rattle.std.specs.Str.{bytes_eq}
 use Rattle.std.proofs.lemmas.Bool.{and_parts}
 use Rattle.std.proofs.lemmas.List.{map-append}
+use Rattle.std.proofs.lemmas.List.Elements.{All-nil, All-cons, All-head, All-tail}
 use Rattle.c_tree.specs.declared.token.Token.{Token}
 use Rattle.c_tree.specs.declared.token.TokenKind.{TokenKind}
 use Rattle.c_tree.specs.declared.token.TokenKind.TheVariants as kind
 use Rattle.c_lexer.specs.Places.{place_of}
 use Rattle.c_lexer.specs.Lexing.{start, token_at, tokens_of, AreTokens}
-use Rattle.c_lexer.proofs.Ends.{no_end}
+use Rattle.c_lexer.proofs.Ends.{IsNoEnd, no_end}
 use Rattle.c_grammar.specs.declared.sign.Sign.{Sign}
 use Rattle.c_grammar.specs.declared.sign.Sign.TheVariants as sign
 use Rattle.c_grammar.specs.Words.{keywords, marks, sign_by, sign_in, keyword_sign, mark_sign, Word, word_of, a_sign, sign_of_word, Lexeme, lexemes}
@@ -59,14 +60,19 @@ only_the_end kind.End e = refl
 
 -- TOKENS
 
-none : (tokens : List Token) → All (λ t. t.kind ≡ kind.End → ⊥) tokens → All (λ t. t.word ≡ a_sign sign.End → ⊥) (lexemes tokens)
-none [] all = tt
-none (t ∷ tokens) all = (λ e. all.0 (only_the_end t.kind e), none tokens all.1)
+abbrev IsOther : Lexeme → Type 0
+IsOther t = t.word ≡ a_sign sign.End → ⊥
+
+others : (tokens : List Token) → All IsNoEnd tokens → All IsOther (lexemes tokens)
+others [] all = All-nil IsOther
+others (t ∷ tokens) all =
+    All-cons IsOther (record { word = word_of t.kind; at = t.at }) (lexemes tokens) (λ e. All-head IsNoEnd t tokens all (only_the_end t.kind e))
+    (others tokens (All-tail IsNoEnd t tokens all))
 
 pub lexed_is_ended : LexedIsEnded
 lexed_is_ended text tokens given = record {
   body = lexemes (tokens_of start given.pieces);
   at = place_of text;
   is = ap lexemes given.listed ∙ map-append _ (tokens_of start given.pieces) (token_at (place_of text) (Some kind.End));
-  none = none (tokens_of start given.pieces) (no_end start given.pieces given.each);
+  none = others (tokens_of start given.pieces) (no_end start given.pieces given.each);
 }

@@ -4,3 +4,4 @@ mod Positions
 mod Reaching
 mod Unique
 mod Longest
+pub mod Ends

@@ -17,3 +17,4 @@ mod Sim
 mod DeclSim
 mod StatSim
 mod Parsed
+mod Lexed

@@ -3,4 +3,4 @@
 
 mod sign;
 
-pub use sign::{sign_of, Sign};
+pub use sign::{Sign, sign_of};

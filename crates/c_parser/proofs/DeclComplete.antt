@@ -1,13 +1,10 @@
 -- The machine over the words of a declaration comes to what that declaration concludes.
-use Rattle.std.proofs.Common.{rules, ◌≡◌, ℕ, ℤ, zero, suc, ◌+◌, ◌<◌, ◌≤◌, Bool, true, false, cond, nat_le, ◌==◌, ◌&&◌, List, [], ◌∷◌, ◌++◌, length, map, Option, Some, None, Ok, Err, refl, sym, ap, subst, ◌∙◌, append_assoc, arith}
-use Rattle.std.proofs.lemmas.Bool.{and_parts, leb-true, le-leb, leb-false, and_from}
-use Rattle.std.proofs.lemmas.Bool.Decides.{nat_tests}
-use Rattle.std.proofs.lemmas.List.{append-nil}
+use Rattle.std.proofs.Common.{◌≡◌, ℕ, Bool, true, false, cond, List, [], ◌∷◌, ◌++◌, map, Option, Some, None, refl, sym, ap, subst, ◌∙◌, append_assoc, arith}
+use Rattle.std.proofs.lemmas.Bool.{and_parts}
 use Rattle.c_tree.specs.declared.token.At.{At}
 use Rattle.c_tree.specs.declared.syntax.TypeWords.{TypeWords}
 use Rattle.c_tree.specs.declared.syntax.TypeWords.TheVariants as words
 use Rattle.c_tree.specs.declared.syntax.Expr.{Expr}
-use Rattle.c_tree.specs.declared.syntax.Expr.TheVariants as tree
 use Rattle.c_tree.specs.declared.syntax.Size.{Size}
 use Rattle.c_tree.specs.declared.syntax.Size.TheVariants as size
 use Rattle.c_tree.specs.declared.syntax.Initialiser.{Initialiser}
@@ -23,15 +20,14 @@ use Rattle.c_tree.specs.declared.syntax.Declaration.TheVariants as declaration
 use Rattle.c_grammar.specs.declared.sign.Sign.{Sign}
 use Rattle.c_grammar.specs.declared.sign.Sign.TheVariants as sign
 use Rattle.c_grammar.specs.Words.{Word, a_name, a_number, a_character, a_sign, sign_of_word, Lexeme}
-use Rattle.c_grammar.specs.Phrases.{Leaf, leaf, Said, Part, sub, stands, is_at, same_place, entry, behind, leaves_of, leaves_at, all_fit, piece, only, commas, some, the_sign, operator}
+use Rattle.c_grammar.specs.Phrases.{Leaf, leaf, Part, leaves_of, leaves_at, all_fit, piece, only, commas, the_sign}
 use Rattle.c_grammar.specs.Grammar.{about, type, assign, sized, initialised, last_comma, declarator, returned, maybe_name, parameter, listed, called, declared}
-use Rattle.c_grammar.specs.Spelling.{Stands}
-use Rattle.c_reading.specs.Parsers.{Wrong, Deep, same}
-use Rattle.c_parser.proofs.Asked.{place_of, type_of, joined}
+use Rattle.c_reading.specs.Parsers.{same}
+use Rattle.c_parser.proofs.Asked.{type_of, joined}
 use Rattle.c_parser.proofs.Machine as m
 use Rattle.c_parser.proofs.Machine.{State, operand, have, Use, step, run, Outcome, Next, goes, moved, hole, first, op_of, takes, close_use, offer, Home, Naming, Heading, home_nesting, conclude, item_named, item_sized, item_ended, item_next, item_end, item_of, value_after, parameters_first, parameter_typed, parameter_ended, parameter_next, header, declaring, either, expect}
-use Rattle.c_parser.proofs.Runs.{lex, head_sign, starts, Met, met_as, took, took_any, skip, alike, typed, Typing, type_leaves, type_of_leaves, type_at_leaves}
-use Rattle.c_parser.proofs.ExprRuns.{not_sign, Fit, fit, binds, Follow, follow_none, follow_comma, heads}
+use Rattle.c_parser.proofs.Runs.{lex, head_sign, starts, Met, met_as, took, took_any, skip, alike, typed, Typing, type_at_leaves}
+use Rattle.c_parser.proofs.ExprRuns.{not_sign, fit, binds, Follow, follow_none, follow_comma, heads}
 use Rattle.c_parser.proofs.ExprComplete.{complete}
 
 pub joined_other : (t : TypeWords) → joined t sign.Other ≡ None
@@ -72,9 +68,9 @@ module _ (T : ℕ → Bool) where
       let p = fit 2 e _ fits in
       took T (item_named i) (either sign.RightBracket (home_nesting i.home) (item_sized i size.Absent) (operand [] (m.size_ i))) ts w (λ q st. refl) mt
       (λ vs mv. skip T (either sign.RightBracket (home_nesting i.home) (item_sized i size.Absent) (operand [] (m.size_ i))) (operand [] (m.size_ i)) refl vs
-          (λ t st. ap (λ b. cond b (goes (home_nesting i.home) (item_sized i size.Absent)) (step (operand [] (m.size_ i)) t)) (not_sign t.word sign.RightBracket st refl)) (heads e _ _) mv
-        ∙ (complete T e p.fits).all (omega (arith, p.level)) [] (m.size_ i) p.level _ (follow_none _ _ refl) vs w mv
-          (λ xs mx. took T (have e [] (m.size_ i)) (item_sized i (size.Given e)) xs w (λ q st. refl) mx go))
+      (λ t st. ap (λ b. cond b (goes (home_nesting i.home) (item_sized i size.Absent)) (step (operand [] (m.size_ i)) t)) (not_sign t.word sign.RightBracket st refl)) (heads e _ _) mv
+      ∙ (complete T e p.fits).all (omega (arith, p.level)) [] (m.size_ i) p.level _ (follow_none _ _ refl) vs w mv
+      (λ xs mx. took T (have e [] (m.size_ i)) (item_sized i (size.Given e)) xs w (λ q st. refl) mx go))
 
   -- ---- initialisers
 
@@ -84,19 +80,19 @@ module _ (T : ℕ → Bool) where
   values_run i z done e [] false fits r ts w mt go =
       let p = fit 1 e _ fits in
       (complete T e p.fits).all p.level [] (m.list_ i z done) p.level _ (follow_none _ _ refl) ts w mt
-        (λ xs mx. took T (have e [] (m.list_ i z done)) (item_end i z (initialiser.List (done ++ e ∷ []) false)) xs w (λ q st. refl) mx go)
+      (λ xs mx. took T (have e [] (m.list_ i z done)) (item_end i z (initialiser.List (done ++ e ∷ []) false)) xs w (λ q st. refl) mx go)
   values_run i z done e [] true fits r ts w mt go =
       let p = fit 1 e _ fits in
       (complete T e p.fits).all p.level [] (m.list_ i z done) p.level _ (follow_comma _ _ refl) ts w mt
-        (λ xs mx. took T (have e [] (m.list_ i z done)) (value_after i z (done ++ e ∷ [])) xs w (λ q st. refl) mx
-          (λ ys my. took T (value_after i z (done ++ e ∷ [])) (item_end i z (initialiser.List (done ++ e ∷ []) true)) ys w (λ q st. refl) my go))
+      (λ xs mx. took T (have e [] (m.list_ i z done)) (value_after i z (done ++ e ∷ [])) xs w (λ q st. refl) mx
+      (λ ys my. took T (value_after i z (done ++ e ∷ [])) (item_end i z (initialiser.List (done ++ e ∷ []) true)) ys w (λ q st. refl) my go))
   values_run i z done e (f ∷ es) last fits r ts w mt go =
       let p = fit 1 e _ fits in
       (complete T e p.fits).all p.level [] (m.list_ i z done) p.level _ (follow_comma _ _ refl) ts w mt
-        (λ xs mx. took T (have e [] (m.list_ i z done)) (value_after i z (done ++ e ∷ [])) xs w (λ q st. refl) mx
-          (λ ys my. skip T (value_after i z (done ++ e ∷ [])) (operand [] (m.list_ i z (done ++ e ∷ []))) refl ys
-              (λ t st. ap (λ b. cond b (goes (home_nesting i.home) (item_end i z (initialiser.List (done ++ e ∷ []) true))) (step (operand [] (m.list_ i z (done ++ e ∷ []))) t)) (not_sign t.word sign.RightBrace st refl)) (value_head f es _ _ _) my
-            ∙ values_run i z (done ++ e ∷ []) f es last p.rest r ys w my (λ zs mz. ap (λ l. run T zs (item_end i z (initialiser.List l last))) (append_assoc done (e ∷ []) (f ∷ es)) ∙ go zs mz)))
+      (λ xs mx. took T (have e [] (m.list_ i z done)) (value_after i z (done ++ e ∷ [])) xs w (λ q st. refl) mx
+      (λ ys my. skip T (value_after i z (done ++ e ∷ [])) (operand [] (m.list_ i z (done ++ e ∷ []))) refl ys
+      (λ t st. ap (λ b. cond b (goes (home_nesting i.home) (item_end i z (initialiser.List (done ++ e ∷ []) true))) (step (operand [] (m.list_ i z (done ++ e ∷ []))) t)) (not_sign t.word sign.RightBrace st refl)) (value_head f es _ _ _) my
+      ∙ values_run i z (done ++ e ∷ []) f es last p.rest r ys w my (λ zs mz. ap (λ l. run T zs (item_end i z (initialiser.List l last))) (append_assoc done (e ∷ []) (f ∷ es)) ∙ go zs mz)))
     where
       value_head : (e : Expr) (es : List Expr) (ps : List Part) (n : ℕ) (r : List Leaf) → starts (head_sign (leaves_of (commas assign (map about (e ∷ es)) ++ ps) n r)) ≡ true
       value_head e [] ps n r = heads e _ _
@@ -127,14 +123,14 @@ module _ (T : ℕ → Bool) where
       let p = fit 1 e true fits in
       took T (item_sized i z) (begun_value i z) ts w (λ q st. refl) mt
       (λ vs mv. skip T (begun_value i z) (operand [] (m.value_ i z)) refl vs
-          (λ t st. ap (λ b. cond b (goes (home_nesting i.home) (operand [] (m.list_ i z []))) (step (operand [] (m.value_ i z)) t)) (not_sign t.word sign.LeftBrace st refl)) (heads e _ _) mv
-        ∙ (complete T e p.fits).all p.level [] (m.value_ i z) p.level r (ends_binds r ends _) vs w mv
-          (λ xs mx. ended_value i z e r xs ends mx ∙ go xs mx))
+      (λ t st. ap (λ b. cond b (goes (home_nesting i.home) (operand [] (m.list_ i z []))) (step (operand [] (m.value_ i z)) t)) (not_sign t.word sign.LeftBrace st refl)) (heads e _ _) mv
+      ∙ (complete T e p.fits).all p.level [] (m.value_ i z) p.level r (ends_binds r ends _) vs w mv
+      (λ xs mx. ended_value i z e r xs ends mx ∙ go xs mx))
   initials i z (initialiser.List [] last) fits r ends ts w mt go = absurd cc
   initials i z (initialiser.List (e ∷ es) last) fits r ends ts w mt go =
       took T (item_sized i z) (begun_value i z) ts w (λ q st. refl) mt
       (λ vs mv. took T (begun_value i z) (operand [] (m.list_ i z [])) vs w (λ q st. refl) mv
-        (λ xs mx. values_run i z [] e es last fits r xs w mx go))
+      (λ xs mx. values_run i z [] e es last fits r xs w mx go))
 
   -- ---- objects
 
@@ -163,7 +159,7 @@ module _ (T : ℕ → Bool) where
 
   objects_run : (at : At) (t : TypeWords) (done : List Item) (h : Home) (i : Item) (is : List Item) → all_fit (commas piece (map declarator (i ∷ is)) ++ the_sign sign.Semicolon ∷ []) ≡ true → (r : List Leaf) (ts : List Lexeme) (v : Outcome) (s : State)
       → ((vs : List Lexeme) (ps : List Part) → Met T vs (leaf (a_name i.name) (Some i.at) (home_nesting h) ∷ leaves_of (sized i.size ++ initialised i.initialiser) (home_nesting h) (leaves_of ps (home_nesting h) r)) → Ends sign.Semicolon (leaves_of ps (home_nesting h) r)
-        → ((xs : List Lexeme) → Met T xs (leaves_of ps (home_nesting h) r) → run T xs (item_end (naming at t done h i) i.size i.initialiser) ≡ v) → run T vs s ≡ v)
+      → ((xs : List Lexeme) → Met T xs (leaves_of ps (home_nesting h) r) → run T xs (item_end (naming at t done h i) i.size i.initialiser) ≡ v) → run T vs s ≡ v)
       → Met T ts (leaves_of (commas piece (map declarator (i ∷ is)) ++ the_sign sign.Semicolon ∷ []) (home_nesting h) r)
       → ((vs : List Lexeme) → Met T vs r → run T vs (conclude h (declaration.Objects at t (done ++ i ∷ is))) ≡ v) → run T ts s ≡ v
   objects_run at t done h i [] fits r ts w s enter mt go = enter ts (the_sign sign.Semicolon ∷ []) mt (by_close refl)
@@ -172,10 +168,10 @@ module _ (T : ℕ → Bool) where
       let more = (and_parts (declarator i).fits _ fits).1 in
       enter ts (the_sign sign.Comma ∷ (commas piece (map declarator (j ∷ is)) ++ the_sign sign.Semicolon ∷ [])) mt (by_comma refl)
       (λ xs mx. took T (item_end (naming at t done h i) i.size i.initialiser) (item_next at t (done ++ i ∷ []) h) xs w (λ q st. refl) mx
-        (λ ys my. objects_run at t (done ++ i ∷ []) h j is more r ys w (item_next at t (done ++ i ∷ []) h)
-          (λ vs ps mv ends k. took T (item_next at t (done ++ i ∷ []) h) (item_named (naming at t (done ++ i ∷ []) h j)) vs w (λ q st. ap (λ z. goes (home_nesting h) (item_named (record { at = at; words = t; done = done ++ i ∷ []; home = h; item_at = z; name = j.name }))) (sym st)) mv
-            (λ zs mz. object_run (naming at t (done ++ i ∷ []) h j) j.size j.initialiser (first_fits j is more) _ ends zs w mz k)) my
-          (λ zs mz. ap (λ l. run T zs (conclude h (declaration.Objects at t l))) (append_assoc done (i ∷ []) (j ∷ is)) ∙ go zs mz)))
+      (λ ys my. objects_run at t (done ++ i ∷ []) h j is more r ys w (item_next at t (done ++ i ∷ []) h)
+      (λ vs ps mv ends k. took T (item_next at t (done ++ i ∷ []) h) (item_named (naming at t (done ++ i ∷ []) h j)) vs w (λ q st. ap (λ z. goes (home_nesting h) (item_named (record { at = at; words = t; done = done ++ i ∷ []; home = h; item_at = z; name = j.name }))) (sym st)) mv
+      (λ zs mz. object_run (naming at t (done ++ i ∷ []) h j) j.size j.initialiser (first_fits j is more) _ ends zs w mz k)) my
+      (λ zs mz. ap (λ l. run T zs (conclude h (declaration.Objects at t l))) (append_assoc done (i ∷ []) (j ∷ is)) ∙ go zs mz)))
 
   type_fits : (t : TypeWords) (ps : List Part) → all_fit (type t ++ ps) ≡ true → all_fit ps ≡ true
   type_fits words.Char ps h = h
@@ -247,13 +243,13 @@ module _ (T : ℕ → Bool) where
   parameters_run k done p [] more r ts w s y mt go =
       typed T (Some p.at) s (λ t. parameter_typed k done p.at t) _ y p.words _ ts w (met_as T ts _ _ (type_at_leaves T p.at p.words (maybe_name p.name) _ _) mt)
       (λ vs mv. named_parameter k done p.at p.words p.name _ (by_close refl) vs w mv
-        (λ xs mx. took T (parameter_ended k (done ++ p ∷ [])) (header k (parameters.List (done ++ p ∷ []))) xs w (λ q st. refl) mx go))
+      (λ xs mx. took T (parameter_ended k (done ++ p ∷ [])) (header k (parameters.List (done ++ p ∷ []))) xs w (λ q st. refl) mx go))
   parameters_run k done p (q ∷ ps) more r ts w s y mt go =
       typed T (Some p.at) s (λ t. parameter_typed k done p.at t) _ y p.words _ ts w (met_as T ts _ _ (type_at_leaves T p.at p.words (maybe_name p.name) _ _) mt)
       (λ vs mv. named_parameter k done p.at p.words p.name _ (by_comma refl) vs w mv
-        (λ xs mx. took T (parameter_ended k (done ++ p ∷ [])) (parameter_next k (done ++ p ∷ [])) xs w (λ z st. refl) mx
-          (λ ys my. parameters_run k (done ++ p ∷ []) q ps more r ys w (parameter_next k (done ++ p ∷ [])) (next q) my
-            (λ zs mz. ap (λ l. run T zs (header k (parameters.List l))) (append_assoc done (p ∷ []) (q ∷ ps)) ∙ go zs mz))))
+      (λ xs mx. took T (parameter_ended k (done ++ p ∷ [])) (parameter_next k (done ++ p ∷ [])) xs w (λ z st. refl) mx
+      (λ ys my. parameters_run k (done ++ p ∷ []) q ps more r ys w (parameter_next k (done ++ p ∷ [])) (next q) my
+      (λ zs mz. ap (λ l. run T zs (header k (parameters.List l))) (append_assoc done (p ∷ []) (q ∷ ps)) ∙ go zs mz))))
     where
       next : (q : Parameter) → Typing T (Some q.at) (parameter_next k (done ++ p ∷ [])) (λ t. parameter_typed k (done ++ p ∷ []) q.at t) (home_nesting k.home)
       next q = record {
@@ -298,13 +294,13 @@ module _ (T : ℕ → Bool) where
   heading_run at gives.Void n ps more h s o fits r ts w mt go =
       took T s (declaring at gives.Void h) ts w (λ q st. o.with_void q ∙ ap (λ z. goes (home_nesting h) (declaring z gives.Void h)) (sym st)) mt
       (λ vs mv. took_any T (declaring at gives.Void h) (λ q. m.declared at gives.Void q n h) vs w (λ q. refl) mv
-        (λ q xs mx. took T (m.declared at gives.Void q n h) (parameters_first (heading at gives.Void n h)) xs w (λ z st. refl) mx
-          (λ ys my. listed_run (heading at gives.Void n h) ps more fits r ys w my go)))
+      (λ q xs mx. took T (m.declared at gives.Void q n h) (parameters_first (heading at gives.Void n h)) xs w (λ z st. refl) mx
+      (λ ys my. listed_run (heading at gives.Void n h) ps more fits r ys w my go)))
   heading_run at (gives.Value t) n ps more h s o fits r ts w mt go =
       typed T (Some at) s (λ y. declaring at (gives.Value y) h) _ (typing at h s o) t _ ts w (met_as T ts _ _ (type_at_leaves T at t (called n ps more) _ _) mt)
       (λ vs mv. took_any T (declaring at (gives.Value t) h) (λ q. m.declared at (gives.Value t) q n h) vs w (λ q. first_name at t h q n) mv
-        (λ q xs mx. took T (m.declared at (gives.Value t) q n h) (parameters_first (heading at (gives.Value t) n h)) xs w (λ z st. refl) mx
-          (λ ys my. listed_run (heading at (gives.Value t) n h) ps more (type_fits t (called n ps more) fits) r ys w my go)))
+      (λ q xs mx. took T (m.declared at (gives.Value t) q n h) (parameters_first (heading at (gives.Value t) n h)) xs w (λ z st. refl) mx
+      (λ ys my. listed_run (heading at (gives.Value t) n h) ps more (type_fits t (called n ps more) fits) r ys w my go)))
 
   pub declaration_run : (d : Declaration) (h : Home) (s : State) → Opens s h → (declared d).fits ≡ true → (r : List Leaf) (ts : List Lexeme) (v : Outcome)
       → Met T ts ((declared d).leaves (home_nesting h) r)
@@ -318,6 +314,6 @@ module _ (T : ℕ → Bool) where
   declaration_run (declaration.Objects at t (i ∷ is)) h s o fits r ts w mt go =
       typed T (Some at) s (λ y. declaring at (gives.Value y) h) _ (typing at h s o) t _ ts w (met_as T ts _ _ (type_at_leaves T at t _ _ _) mt)
       (λ vs mv. objects_run at t [] h i is (type_fits t _ (and_parts _ _ fits).1) r vs w (declaring at (gives.Value t) h)
-        (λ xs ps mx ends k. took T (declaring at (gives.Value t) h) (m.declared at (gives.Value t) i.at i.name h) xs w (λ q st. first_name at t h q i.name ∙ ap (λ z. goes (home_nesting h) (m.declared at (gives.Value t) z i.name h)) (sym st)) mx
-          (λ ys my. alike T (m.declared at (gives.Value t) i.at i.name h) (item_named (naming at t [] h i)) ys _ refl (λ l st. no_paren at t i.at i.name h (sign_of_word l.word) (ap (λ x. same x sign.LeftParen) st ∙ objects_head i.size i.initialiser _ _ ends)) my
-            ∙ object_run (naming at t [] h i) i.size i.initialiser (first_fits i is (type_fits t _ (and_parts _ _ fits).1)) _ ends ys w my k)) mv go)
+      (λ xs ps mx ends k. took T (declaring at (gives.Value t) h) (m.declared at (gives.Value t) i.at i.name h) xs w (λ q st. first_name at t h q i.name ∙ ap (λ z. goes (home_nesting h) (m.declared at (gives.Value t) z i.name h)) (sym st)) mx
+      (λ ys my. alike T (m.declared at (gives.Value t) i.at i.name h) (item_named (naming at t [] h i)) ys _ refl (λ l st. no_paren at t i.at i.name h (sign_of_word l.word) (ap (λ x. same x sign.LeftParen) st ∙ objects_head i.size i.initialiser _ _ ends)) my
+      ∙ object_run (naming at t [] h i) i.size i.initialiser (first_fits i is (type_fits t _ (and_parts _ _ fits).1)) _ ends ys w my k)) mv go)

@@ -1,40 +1,18 @@
 -- The reading of declarations does what the machine does.
-use denote.Hole.Carrier
-use Rattle.c_tree.specs.declared.syntax.Expr.{out-Expr}
 use denote.Enum.Bare.{same_true}
 use Rattle.c_grammar.specs.contracts.sign.Sign.{the_type}
-use Rattle.std.proofs.Common.{rules, ◌⊎◌, inl, inr, ◌≡◌, ℕ, ℤ, zero, suc, ◌+◌, ◌<◌, ◌≤◌, Bool, true, false, cond, nat_le, nat_lt, ◌==◌, ◌&&◌, List, [], ◌∷◌, ◌++◌, length, map, Option, Some, None, Ok, Err, refl, sym, ap, subst, ◌∙◌, append_assoc, arith}
-use Rattle.std.proofs.lemmas.Bool.{and_parts, leb-true, le-leb, leb-false, and_from, ltb-true, ltb-false}
-use Rattle.std.proofs.lemmas.Bool.Decides.{nat_tests}
-use Rattle.std.proofs.lemmas.List.{append-nil}
+use Rattle.std.proofs.Common.{rules, ◌⊎◌, inl, inr, ◌≡◌, ℕ, zero, suc, Bool, true, false, cond, List, [], ◌∷◌, ◌++◌, Option, Some, None, Ok, Err, refl, sym, ap, subst, ◌∙◌, arith}
 use Rattle.c_tree.specs.declared.token.At.{At}
 use Rattle.c_tree.specs.declared.syntax.TypeWords.{TypeWords}
-use Rattle.c_tree.specs.declared.syntax.TypeWords.TheVariants as words
-use Rattle.c_tree.specs.declared.syntax.BinaryOperator.{BinaryOperator}
-use Rattle.c_tree.specs.declared.syntax.BinaryOperator.TheVariants as binary_
-use Rattle.c_tree.specs.declared.syntax.AssignOperator.{AssignOperator}
-use Rattle.c_tree.specs.declared.syntax.AssignOperator.TheVariants as assign_
-use Rattle.c_tree.specs.declared.syntax.UnaryOperator.{UnaryOperator}
-use Rattle.c_tree.specs.declared.syntax.UnaryOperator.TheVariants as unary_
-use Rattle.c_tree.specs.declared.syntax.StepOperator.{StepOperator}
-use Rattle.c_tree.specs.declared.syntax.StepOperator.TheVariants as step_
 use Rattle.c_tree.specs.declared.syntax.Expr.{Expr}
-use Rattle.c_tree.specs.declared.syntax.Expr.TheVariants as tree
-use Rattle.c_tree.specs.declared.syntax.Expr.TheOpen.{Expr-F, Comma, Assign, Conditional, Binary, Cast, Unary, Before, After, Name, Element, Call, Number, Character, Paren}
 use Rattle.c_grammar.specs.declared.sign.Sign.{Sign}
 use Rattle.c_grammar.specs.declared.sign.Sign.TheVariants as sign
 use Rattle.c_grammar.specs.Words.{Word, a_name, a_number, a_character, a_sign, sign_of_word, Lexeme}
-use Rattle.c_grammar.specs.Operators.{precedence, binary_sign, assign_sign, unary_sign, step_sign}
-use Rattle.c_grammar.specs.Phrases.{Leaf, leaf, Said, Part, sub, stands, is_at, same_place, entry, behind, leaves_of, leaves_at, all_fit, marks_of, commas, the_sign, operator}
-use Rattle.c_grammar.specs.Grammar.{about, expression, type, assign}
-use Rattle.c_grammar.specs.Spelling.{Stands}
-use Rattle.c_reading.specs.Parsers.{Trouble, Wrong, Deep, Out, same, Read, Parser, ◌>>=◌, ◌>>◌, and_then, pure, wrong, out, peek, word_at, place_at, sign_at, eat, expect, more, deeper, counted, phrase}
+use Rattle.c_reading.specs.Parsers.{Wrong, same, Parser, ◌>>=◌, ◌>>◌, and_then, pure, wrong, peek, word_at, place_at, sign_at, eat, expect, more}
 use Rattle.c_reading.specs.Expressions as r
-use Rattle.c_reading.specs.Trees as q
-use Rattle.c_parser.proofs.Asked.{place_of, type_of, joined}
+use Rattle.c_parser.proofs.Asked.{type_of, joined}
 use Rattle.c_tree.specs.declared.syntax.Size.{Size}
 use Rattle.c_tree.specs.declared.syntax.Size.TheVariants as size
-use Rattle.c_tree.specs.declared.syntax.Initialiser.{Initialiser}
 use Rattle.c_tree.specs.declared.syntax.Initialiser.TheVariants as initialiser
 use Rattle.c_tree.specs.declared.syntax.Item.{Item}
 use Rattle.c_tree.specs.declared.syntax.Return.{Return}
@@ -42,7 +20,6 @@ use Rattle.c_tree.specs.declared.syntax.Return.TheVariants as gives
 use Rattle.c_tree.specs.declared.syntax.Parameter.{Parameter}
 use Rattle.c_tree.specs.declared.syntax.Parameters.{Parameters}
 use Rattle.c_tree.specs.declared.syntax.Parameters.TheVariants as parameters
-use Rattle.c_tree.specs.declared.syntax.Declaration.{Declaration}
 use Rattle.c_tree.specs.declared.syntax.Declaration.TheVariants as declaration
 use Rattle.c_reading.specs.Declarations as d
 use Rattle.c_reading.specs.declared.declarations.Opening.{Opening}
@@ -50,9 +27,8 @@ use Rattle.c_reading.specs.declared.declarations.Opening.TheVariants as opening_
 use Rattle.c_reading.specs.Parsers.{name, name_by, name_if_any, name_if_any_by}
 use Rattle.c_parser.proofs.Machine as m
 use Rattle.c_parser.proofs.Machine.{State, operand, have, Use, step, run, Outcome, Next, goes, moved, at_end, hole, first, spot, op_of, takes, push, close_use, use_hole, Home, Naming, Heading, home_nesting, conclude, item_named, item_sized, item_ended, item_next, item_end, item_of, value_after, parameters_first, parameter_typed, parameter_ended, parameter_next, header, declaring, either, is_sign}
-use Rattle.c_parser.proofs.DeclComplete.{joined_other, joined_close}
 use Rattle.c_parser.proofs.Reached.{word_is}
-use Rattle.c_parser.proofs.Sim.{same_joined, same_type_of, Stop, stop_takes, Sim, sim_then, sim_as, sim_weaker, Took, sim_eat, sim_wrong, same_run, sign_is, word_at_is, place_is, sim_expect, sim_more, Words, Typed, types_sim, Got, inner, outside, Reads, read_reads}
+use Rattle.c_parser.proofs.Sim.{Stop, stop_takes, Sim, sim_then, sim_as, sim_weaker, Took, sim_eat, sim_wrong, same_run, sign_is, word_at_is, place_is, sim_expect, sim_more, Words, Typed, types_sim, Got, inner, read_reads}
 
 pub is_no_sign : (w : Word) (x : Sign) → same (sign_of_word w) x ≡ false → is_sign w x ≡ false
 is_no_sign (a_name n) x h = refl
@@ -116,14 +92,14 @@ module _ (T : ℕ → Bool) where
   sized_sim b i n ts nn = sim_choice sign.RightBracket n ts (item_sized i size.Absent) (operand [] (m.size_ i)) (pure size.Absent) _ (λ z. item_sized i z) (λ z k us. Took T n k) refl refl refl
       (λ y us g. (refl, g))
       (sim_then T (and_then (r.read T b r.conditional (suc n) ts) (λ x k us. Ok (x, n, us))) _ (run T ts (operand [] (m.size_ i))) (λ e. have e [] (m.size_ i)) (λ e k us. (k ≡ n) × Stop 2 (op_of (sign_at us)) e) (λ z. item_sized i z) (λ z k us. Took T n k)
-        (sim_then T (r.read T b r.conditional (suc n) ts) _ (run T ts (operand [] (m.size_ i))) (λ e. have e [] (m.size_ i)) (Got T 2 (place_at ts) (inner T [] (m.size_ i))) (λ e. have e [] (m.size_ i)) (λ e k us. (k ≡ n) × Stop 2 (op_of (sign_at us)) e)
-          ((read_reads T b).conditional [] (m.size_ i) (suc n) ts (omega arith) (ap suc nn))
-          (λ e k us g. (refl, (refl, g.stop))))
-        (λ e k us g. sim_then T (expect T sign.RightBracket k us) _ (run T us (have e [] (m.size_ i))) (λ x. item_sized i (size.Given e)) (λ x j vs. Took T k j) (λ z. item_sized i z) (λ z k us. Took T n k)
-          (sim_expect T (have e [] (m.size_ i)) (item_sized i (size.Given e)) sign.RightBracket k us refl
-            (λ t vs q w. use_step e (m.size_ i) us g.1 t vs q ∙ ap (λ x. close_use (m.size_ i) e x) w ∙ ap (λ j. goes j (item_sized i (size.Given e))) (sym nn ∙ sym g.0))
-            (λ t vs q w. use_step e (m.size_ i) us g.1 t vs q ∙ size_none e (sign_of_word t.word) w))
-          (λ x j vs h. (refl, record { nesting = h.nesting ∙ g.0 }))))
+      (sim_then T (r.read T b r.conditional (suc n) ts) _ (run T ts (operand [] (m.size_ i))) (λ e. have e [] (m.size_ i)) (Got T 2 (place_at ts) (inner T [] (m.size_ i))) (λ e. have e [] (m.size_ i)) (λ e k us. (k ≡ n) × Stop 2 (op_of (sign_at us)) e)
+      ((read_reads T b).conditional [] (m.size_ i) (suc n) ts (omega arith) (ap suc nn))
+      (λ e k us g. (refl, (refl, g.stop))))
+      (λ e k us g. sim_then T (expect T sign.RightBracket k us) _ (run T us (have e [] (m.size_ i))) (λ x. item_sized i (size.Given e)) (λ x j vs. Took T k j) (λ z. item_sized i z) (λ z k us. Took T n k)
+      (sim_expect T (have e [] (m.size_ i)) (item_sized i (size.Given e)) sign.RightBracket k us refl
+      (λ t vs q w. use_step e (m.size_ i) us g.1 t vs q ∙ ap (λ x. close_use (m.size_ i) e x) w ∙ ap (λ j. goes j (item_sized i (size.Given e))) (sym nn ∙ sym g.0))
+      (λ t vs q w. use_step e (m.size_ i) us g.1 t vs q ∙ size_none e (sign_of_word t.word) w))
+      (λ x j vs h. (refl, record { nesting = h.nesting ∙ g.0 }))))
       (same (sign_at ts) sign.RightBracket) refl
     where
       size_none : (e : Expr) (s : Sign) → same s sign.RightBracket ≡ false → close_use (m.size_ i) e s ≡ None
@@ -154,9 +130,9 @@ module _ (T : ℕ → Bool) where
   unfolding d.value_end
   value_end_sim i z es x n ts nn st = sim_then T (more T sign.RightBrace n ts) _ (run T ts (have x [] (m.list_ i z es))) (λ b. cond b (value_after i z (es ++ x ∷ [])) (item_end i z (initialiser.List (es ++ x ∷ []) false))) (λ b k us. Took T n k) (ended_by i z (es ++ x ∷ [])) (λ c k us. Took T n k)
       (sim_more T (have x [] (m.list_ i z es)) (value_after i z (es ++ x ∷ [])) (item_end i z (initialiser.List (es ++ x ∷ []) false)) sign.RightBrace n ts refl
-        (λ t us q w. use_step x (m.list_ i z es) ts st t us q ∙ ap (λ y. close_use (m.list_ i z es) x y) w ∙ ap (λ k. goes k (value_after i z (es ++ x ∷ []))) (sym nn))
-        (λ t us q w. use_step x (m.list_ i z es) ts st t us q ∙ ap (λ y. close_use (m.list_ i z es) x y) w ∙ ap (λ k. goes k (item_end i z (initialiser.List (es ++ x ∷ []) false))) (sym nn))
-        (λ t us q c e. use_step x (m.list_ i z es) ts st t us q ∙ neither (sign_of_word t.word) c e))
+      (λ t us q w. use_step x (m.list_ i z es) ts st t us q ∙ ap (λ y. close_use (m.list_ i z es) x y) w ∙ ap (λ k. goes k (value_after i z (es ++ x ∷ []))) (sym nn))
+      (λ t us q w. use_step x (m.list_ i z es) ts st t us q ∙ ap (λ y. close_use (m.list_ i z es) x y) w ∙ ap (λ k. goes k (item_end i z (initialiser.List (es ++ x ∷ []) false))) (sym nn))
+      (λ t us q c e. use_step x (m.list_ i z es) ts st t us q ∙ neither (sign_of_word t.word) c e))
       (λ b k us g. onward b k us g)
     where
       neither : (s : Sign) → same s sign.Comma ≡ false → same s sign.RightBrace ≡ false → close_use (m.list_ i z es) x s ≡ None
@@ -168,7 +144,7 @@ module _ (T : ℕ → Bool) where
       last k us g c is = sim_as T _ _ (run T us (either sign.RightBrace k (item_end i z (initialiser.List (es ++ x ∷ []) true)) (operand [] (m.list_ i z (es ++ x ∷ []))))) (ended_by i z (es ++ x ∷ [])) (λ c j vs. Took T n j)
           (ap (λ j. run T us (either sign.RightBrace j (item_end i z (initialiser.List (es ++ x ∷ []) true)) (operand [] (m.list_ i z (es ++ x ∷ []))))) (sym (g.nesting ∙ nn)))
           (sim_choice sign.RightBrace k us (item_end i z (initialiser.List (es ++ x ∷ []) true)) (operand [] (m.list_ i z (es ++ x ∷ []))) (pure (Some true)) (pure None) (ended_by i z (es ++ x ∷ [])) (λ c j vs. Took T n j) refl refl refl
-            (λ y vs h. (refl, record { nesting = h.nesting ∙ g.nesting })) (refl, g) c is)
+          (λ y vs h. (refl, record { nesting = h.nesting ∙ g.nesting })) (refl, g) c is)
 
       onward : (b : Bool) (k : ℕ) (us : List Lexeme) → Took T n k → Sim T ((cond b (cond (same (sign_at us) sign.RightBrace) (eat T >> pure (Some true)) (pure None)) (pure (Some false))) k us) (run T us (cond b (value_after i z (es ++ x ∷ [])) (item_end i z (initialiser.List (es ++ x ∷ []) false)))) (ended_by i z (es ++ x ∷ [])) (λ c j vs. Took T n j)
       onward true k us g = last k us g (same (sign_at us) sign.RightBrace) refl
@@ -179,10 +155,10 @@ module _ (T : ℕ → Bool) where
   values_sim zero i z es n ts nn = tt
   values_sim (suc b) i z es n ts nn = sim_then T (and_then (r.read T b r.assign n ts) (λ x. d.value_end T >>= (λ c. pure (x, c)))) _ (run T ts (operand [] (m.list_ i z es))) (λ y. ended_by i z (es ++ y.0 ∷ []) y.1) (λ y k us. Took T n k) (λ v. item_end i z v) (λ v k us. Took T n k)
       (sim_then T (r.read T b r.assign n ts) _ (run T ts (operand [] (m.list_ i z es))) (λ x. have x [] (m.list_ i z es)) (Got T 1 (place_at ts) (λ x. home_nesting i.home)) (λ y. ended_by i z (es ++ y.0 ∷ []) y.1) (λ y k us. Took T n k)
-        ((read_reads T b).assign [] (m.list_ i z es) n ts (omega arith) nn)
-        (λ x k us g. sim_then T (d.value_end T k us) _ (run T us (have x [] (m.list_ i z es))) (ended_by i z (es ++ x ∷ [])) (λ c j vs. Took T k j) (λ y. ended_by i z (es ++ y.0 ∷ []) y.1) (λ y k us. Took T n k)
-          (value_end_sim i z es x k us g.nesting g.stop)
-          (λ c j vs h. (refl, record { nesting = h.nesting ∙ g.nesting ∙ sym nn }))))
+      ((read_reads T b).assign [] (m.list_ i z es) n ts (omega arith) nn)
+      (λ x k us g. sim_then T (d.value_end T k us) _ (run T us (have x [] (m.list_ i z es))) (ended_by i z (es ++ x ∷ [])) (λ c j vs. Took T k j) (λ y. ended_by i z (es ++ y.0 ∷ []) y.1) (λ y k us. Took T n k)
+      (value_end_sim i z es x k us g.nesting g.stop)
+      (λ c j vs h. (refl, record { nesting = h.nesting ∙ g.nesting ∙ sym nn }))))
       (λ y k us g. onward y.0 k us (values_sim b i z (es ++ y.0 ∷ []) k us (g.nesting ∙ nn)) y.1 g)
     where
       onward : (y : Expr) (k : ℕ) (us : List Lexeme) → Sim T (d.values T b (es ++ y ∷ []) k us) (run T us (operand [] (m.list_ i z (es ++ y ∷ [])))) (λ v. item_end i z v) (λ v j vs. Took T k j) → (c : Option Bool) → Took T n k → Sim T (d.listed T (es ++ y ∷ []) (d.values T b (es ++ y ∷ [])) c k us) (run T us (ended_by i z (es ++ y ∷ []) c)) (λ v. item_end i z v) (λ v j vs. Took T n j)
@@ -199,8 +175,8 @@ module _ (T : ℕ → Bool) where
   value_sim b i z n ts nn s is = sim_as T _ (run T ts (either sign.LeftBrace n (operand [] (m.list_ i z [])) (operand [] (m.value_ i z)))) (run T ts (operand [] (m.value_ i z))) (λ v. item_end i z v) (λ v k us. Took T n k)
       (same_run T (either sign.LeftBrace n (operand [] (m.list_ i z [])) (operand [] (m.value_ i z))) (operand [] (m.value_ i z)) ts refl (λ t us q. ap (λ c. cond c (goes n (operand [] (m.list_ i z []))) (step (operand [] (m.value_ i z)) t)) (is_no_sign t.word sign.LeftBrace (ap (λ y. same y sign.LeftBrace) (sign_is T ts t us s q is)))))
       (sim_then T (r.read T b r.assign n ts) _ (run T ts (operand [] (m.value_ i z))) (λ e. have e [] (m.value_ i z)) (Got T 1 (place_at ts) (λ x. home_nesting i.home)) (λ v. item_end i z v) (λ v k us. Took T n k)
-        ((read_reads T b).assign [] (m.value_ i z) n ts (omega arith) nn)
-        (λ e k us g. (same_value i z e us g.stop, record { nesting = g.nesting ∙ sym nn })))
+      ((read_reads T b).assign [] (m.value_ i z) n ts (omega arith) nn)
+      (λ e k us g. (same_value i z e us g.stop, record { nesting = g.nesting ∙ sym nn })))
 
   initialiser_sim : (b : ℕ) (i : Naming) (z : Size) (n : ℕ) (ts : List Lexeme) → n ≡ home_nesting i.home → Sim T (d.initialiser T b n ts) (run T ts (item_sized i z)) (λ v. item_end i z v) (λ v k us. Took T n k)
   unfolding d.initialiser d.value
@@ -214,7 +190,7 @@ module _ (T : ℕ → Bool) where
       by_sign true is = sim_then T (eat T n ts) _ (run T ts (item_sized i z)) (λ x. either sign.LeftBrace n (operand [] (m.list_ i z [])) (operand [] (m.value_ i z))) (λ x k us. Took T n k) (λ v. item_end i z v) (λ v k us. Took T n k)
           (sim_eat T (item_sized i z) (either sign.LeftBrace n (operand [] (m.list_ i z [])) (operand [] (m.value_ i z))) n ts refl (λ t us q. ap (λ x. m.on_sized i z x) (sign_is T ts t us sign.Assign q (same_true the_type (search rules) (sign_at ts) sign.Assign is)) ∙ ap (λ k. goes k (either sign.LeftBrace k (operand [] (m.list_ i z [])) (operand [] (m.value_ i z)))) (sym nn)))
           (λ x k us g. sim_weaker T _ _ (λ v. item_end i z v) _ (λ v j vs. Took T n j) (λ v j vs l. record { nesting = l.nesting ∙ g.nesting })
-            (sim_as T _ _ (run T us (either sign.LeftBrace k (operand [] (m.list_ i z [])) (operand [] (m.value_ i z)))) (λ v. item_end i z v) (λ v j vs. Took T k j) (ap (λ j. run T us (either sign.LeftBrace j (operand [] (m.list_ i z [])) (operand [] (m.value_ i z)))) (sym g.nesting)) (value_sim b i z k us (g.nesting ∙ nn) (sign_at us) refl)))
+          (sim_as T _ _ (run T us (either sign.LeftBrace k (operand [] (m.list_ i z [])) (operand [] (m.value_ i z)))) (λ v. item_end i z v) (λ v j vs. Took T k j) (ap (λ j. run T us (either sign.LeftBrace j (operand [] (m.list_ i z [])) (operand [] (m.value_ i z)))) (sym g.nesting)) (value_sim b i z k us (g.nesting ∙ nn) (sign_at us) refl)))
       by_sign false is = (same_run T (item_sized i z) (item_end i z initialiser.Absent) ts refl (λ t us q. plain (sign_of_word t.word) (ap (λ y. same y sign.Assign) (sign_is T ts t us (sign_at ts) q refl) ∙ is)), record { nesting = refl })
 
   -- ---- objects
@@ -230,19 +206,19 @@ module _ (T : ℕ → Bool) where
   object_sim b at t is h p f n ts nn = sim_then T (d.size T (r.read T b) n ts) _ (run T ts (item_named (naming at t is h p f))) (λ z. item_sized (naming at t is h p f) z) (λ z k us. Took T n k) (λ x. item_ended at t (is ++ x ∷ []) h) (λ x k us. Took T n k)
       (size_sim b (naming at t is h p f) n ts nn)
       (λ z k us g. sim_then T (d.initialiser T b k us) _ (run T us (item_sized (naming at t is h p f) z)) (λ v. item_end (naming at t is h p f) z v) (λ v j vs. Took T k j) (λ x. item_ended at t (is ++ x ∷ []) h) (λ x k us. Took T n k)
-        (initialiser_sim b (naming at t is h p f) z k us (g.nesting ∙ nn))
-        (λ v j vs l. (refl, record { nesting = l.nesting ∙ g.nesting })))
+      (initialiser_sim b (naming at t is h p f) z k us (g.nesting ∙ nn))
+      (λ v j vs l. (refl, record { nesting = l.nesting ∙ g.nesting })))
 
   next_object_sim : (b : ℕ) (at : At) (t : TypeWords) (is : List Item) (h : Home) (p : At) (f : List ℕ) (n : ℕ) (ts : List Lexeme) → n ≡ home_nesting h → Sim T (d.next_object T b p f n ts) (run T ts (item_named (naming at t is h p f))) (after_object at t is h) (λ x k us. Took T n k)
   unfolding d.next_object
   next_object_sim b at t is h p f n ts nn = sim_then T (d.object T b p f n ts) _ (run T ts (item_named (naming at t is h p f))) (λ x. item_ended at t (is ++ x ∷ []) h) (λ x k us. Took T n k) (after_object at t is h) (λ x k us. Took T n k)
       (object_sim b at t is h p f n ts nn)
       (λ x k us g. sim_then T (more T sign.Semicolon k us) _ (run T us (item_ended at t (is ++ x ∷ []) h)) (λ c. after_object at t is h (x, c)) (λ c j vs. Took T k j) (after_object at t is h) (λ x k us. Took T n k)
-        (sim_more T (item_ended at t (is ++ x ∷ []) h) (item_next at t (is ++ x ∷ []) h) (conclude h (declaration.Objects at t (is ++ x ∷ []))) sign.Semicolon k us refl
-          (λ l vs q w. ap (λ y. m.on_ended at t (is ++ x ∷ []) h y) w ∙ ap (λ j. goes j (item_next at t (is ++ x ∷ []) h)) (sym (g.nesting ∙ nn)))
-          (λ l vs q w. ap (λ y. m.on_ended at t (is ++ x ∷ []) h y) w ∙ ap (λ j. goes j (conclude h (declaration.Objects at t (is ++ x ∷ [])))) (sym (g.nesting ∙ nn)))
-          (λ l vs q c e. neither x (sign_of_word l.word) c e))
-        (λ c j vs l. (refl, record { nesting = l.nesting ∙ g.nesting })))
+      (sim_more T (item_ended at t (is ++ x ∷ []) h) (item_next at t (is ++ x ∷ []) h) (conclude h (declaration.Objects at t (is ++ x ∷ []))) sign.Semicolon k us refl
+      (λ l vs q w. ap (λ y. m.on_ended at t (is ++ x ∷ []) h y) w ∙ ap (λ j. goes j (item_next at t (is ++ x ∷ []) h)) (sym (g.nesting ∙ nn)))
+      (λ l vs q w. ap (λ y. m.on_ended at t (is ++ x ∷ []) h y) w ∙ ap (λ j. goes j (conclude h (declaration.Objects at t (is ++ x ∷ [])))) (sym (g.nesting ∙ nn)))
+      (λ l vs q c e. neither x (sign_of_word l.word) c e))
+      (λ c j vs l. (refl, record { nesting = l.nesting ∙ g.nesting })))
     where
       neither : (x : Item) (s : Sign) → same s sign.Comma ≡ false → same s sign.Semicolon ≡ false → m.on_ended at t (is ++ x ∷ []) h s ≡ None
       neither x sign.Comma c e = absurd cc
@@ -254,10 +230,10 @@ module _ (T : ℕ → Bool) where
   items_sim zero at t is h n ts nn = tt
   items_sim (suc b) at t is h n ts nn = sim_then T (and_then (name T n ts) (d.next_object T b (place_at ts))) _ (run T ts (item_next at t is h)) (after_object at t is h) (λ x k us. Took T n k) (λ xs. conclude h (declaration.Objects at t xs)) (λ x k us. Took T n k)
       (sim_then T (name T n ts) (d.next_object T b (place_at ts)) (run T ts (item_next at t is h)) (λ f. item_named (naming at t is h (place_at ts) f)) (λ f k us. Took T n k) (after_object at t is h) (λ x k us. Took T n k)
-        (sim_name (item_next at t is h) (λ p f. item_named (naming at t is h p f)) n ts refl
-          (λ l f us q w. ap (λ y. m.on_next l.at y at t is h) w ∙ ap (λ k. goes k (item_named (naming at t is h l.at f))) (sym nn))
-          (λ l us q no_name. other l.at l.word no_name))
-        (λ f k us g. sim_weaker T _ _ (after_object at t is h) _ (λ x j vs. Took T n j) (λ x j vs l. record { nesting = l.nesting ∙ g.nesting }) (next_object_sim b at t is h (place_at ts) f k us (g.nesting ∙ nn))))
+      (sim_name (item_next at t is h) (λ p f. item_named (naming at t is h p f)) n ts refl
+      (λ l f us q w. ap (λ y. m.on_next l.at y at t is h) w ∙ ap (λ k. goes k (item_named (naming at t is h l.at f))) (sym nn))
+      (λ l us q no_name. other l.at l.word no_name))
+      (λ f k us g. sim_weaker T _ _ (after_object at t is h) _ (λ x j vs. Took T n j) (λ x j vs l. record { nesting = l.nesting ∙ g.nesting }) (next_object_sim b at t is h (place_at ts) f k us (g.nesting ∙ nn))))
       (λ x k us g. onward x.0 k us (items_sim b at t (is ++ x.0 ∷ []) h k us (g.nesting ∙ nn)) x.1 g)
     where
       other : (p : At) (w : Word) → ((f : List ℕ) → w ≡ a_name f → ⊥) → m.on_next p w at t is h ≡ None
@@ -308,8 +284,8 @@ module _ (T : ℕ → Bool) where
   parameter_sim k ps s n ts nn y = sim_then T (r.type_words T n ts) _ (run T ts s) (λ ty. parameter_typed k ps (place_at ts) ty) (Typed T n) (λ x. parameter_ended k (ps ++ x ∷ [])) (λ x j us. Took T n j)
       (types_sim T s (λ ty. parameter_typed k ps (place_at ts) ty) n ts y)
       (λ ty j us g. sim_then T (name_if_any T j us) _ (run T us (parameter_typed k ps (place_at ts) ty)) (λ f. parameter_ended k (ps ++ a_parameter (place_at ts) ty f ∷ [])) (λ f l vs. Took T j l) (λ x. parameter_ended k (ps ++ x ∷ [])) (λ x j us. Took T n j)
-        (if_any_sim k ps (place_at ts) ty j us (g.nesting ∙ nn) g.ended)
-        (λ f l vs h. (refl, record { nesting = h.nesting ∙ g.nesting })))
+      (if_any_sim k ps (place_at ts) ty j us (g.nesting ∙ nn) g.ended)
+      (λ f l vs h. (refl, record { nesting = h.nesting ∙ g.nesting })))
 
   abbrev after_parameter : Heading → List Parameter → Parameter × Bool → State
   after_parameter k ps x = cond x.1 (parameter_next k (ps ++ x.0 ∷ [])) (header k (parameters.List (ps ++ x.0 ∷ [])))
@@ -319,11 +295,11 @@ module _ (T : ℕ → Bool) where
   next_parameter_sim k ps s n ts nn y = sim_then T (d.parameter T n ts) _ (run T ts s) (λ x. parameter_ended k (ps ++ x ∷ [])) (λ x j us. Took T n j) (after_parameter k ps) (λ x j us. Took T n j)
       (parameter_sim k ps s n ts nn y)
       (λ x j us g. sim_then T (more T sign.RightParen j us) _ (run T us (parameter_ended k (ps ++ x ∷ []))) (λ c. after_parameter k ps (x, c)) (λ c l vs. Took T j l) (after_parameter k ps) (λ x j us. Took T n j)
-        (sim_more T (parameter_ended k (ps ++ x ∷ [])) (parameter_next k (ps ++ x ∷ [])) (header k (parameters.List (ps ++ x ∷ []))) sign.RightParen j us refl
-          (λ l vs q w. ap (λ y. m.on_parameter_end k (ps ++ x ∷ []) y) w ∙ ap (λ i. goes i (parameter_next k (ps ++ x ∷ []))) (sym (g.nesting ∙ nn)))
-          (λ l vs q w. ap (λ y. m.on_parameter_end k (ps ++ x ∷ []) y) w ∙ ap (λ i. goes i (header k (parameters.List (ps ++ x ∷ [])))) (sym (g.nesting ∙ nn)))
-          (λ l vs q c e. neither x (sign_of_word l.word) c e))
-        (λ c l vs h. (refl, record { nesting = h.nesting ∙ g.nesting })))
+      (sim_more T (parameter_ended k (ps ++ x ∷ [])) (parameter_next k (ps ++ x ∷ [])) (header k (parameters.List (ps ++ x ∷ []))) sign.RightParen j us refl
+      (λ l vs q w. ap (λ y. m.on_parameter_end k (ps ++ x ∷ []) y) w ∙ ap (λ i. goes i (parameter_next k (ps ++ x ∷ []))) (sym (g.nesting ∙ nn)))
+      (λ l vs q w. ap (λ y. m.on_parameter_end k (ps ++ x ∷ []) y) w ∙ ap (λ i. goes i (header k (parameters.List (ps ++ x ∷ [])))) (sym (g.nesting ∙ nn)))
+      (λ l vs q c e. neither x (sign_of_word l.word) c e))
+      (λ c l vs h. (refl, record { nesting = h.nesting ∙ g.nesting })))
     where
       neither : (x : Parameter) (s : Sign) → same s sign.Comma ≡ false → same s sign.RightParen ≡ false → m.on_parameter_end k (ps ++ x ∷ []) s ≡ None
       neither x sign.Comma c e = absurd cc
@@ -357,15 +333,15 @@ module _ (T : ℕ → Bool) where
   parameters_sim b k n ts nn sign.Void is = sim_then T (eat T n ts) _ (run T ts (parameters_first k)) (λ x. m.expect sign.RightParen n (header k parameters.Void)) (λ x j us. Took T n j) (λ qs. header k qs) (λ x j us. Took T n j)
       (sim_eat T (parameters_first k) (m.expect sign.RightParen n (header k parameters.Void)) n ts refl (λ t us q. ap (λ x. m.on_parameters t.at x k) (sign_is T ts t us sign.Void q is) ∙ ap (λ j. goes j (m.expect sign.RightParen j (header k parameters.Void))) (sym nn)))
       (λ x j us g. sim_then T (expect T sign.RightParen j us) _ (run T us (m.expect sign.RightParen n (header k parameters.Void))) (λ x. header k parameters.Void) (λ x l vs. Took T j l) (λ qs. header k qs) (λ x j us. Took T n j)
-        (expected_sim sign.RightParen n (header k parameters.Void) j us g.nesting refl refl)
-        (λ x l vs h. (refl, record { nesting = h.nesting ∙ g.nesting })))
+      (expected_sim sign.RightParen n (header k parameters.Void) j us g.nesting refl refl)
+      (λ x l vs h. (refl, record { nesting = h.nesting ∙ g.nesting })))
   parameters_sim b k n ts nn s is = list_sim b k [] (parameters_first k) n ts nn (record {
-      begins = λ t us q ty e. first_type t ty (sign_is T ts t us s q is) e ∙ ap (λ z. goes (home_nesting k.home) (parameter_typed k [] z ty)) (place_is T ts t us q) ∙ ap (λ j. goes j (parameter_typed k [] (place_at ts) ty)) (sym nn);
-      others = λ t us q e. first_other t (sign_is T ts t us s q is) e;
-      extends = λ t ty v e. ap (λ o. m.on_typed t.word o k [] (place_at ts) ty) e ∙ ap (λ j. goes j (parameter_typed k [] (place_at ts) v)) (sym nn);
-      open_first = refl;
-      open_last = λ ty. refl;
-    })
+    begins = λ t us q ty e. first_type t ty (sign_is T ts t us s q is) e ∙ ap (λ z. goes (home_nesting k.home) (parameter_typed k [] z ty)) (place_is T ts t us q) ∙ ap (λ j. goes j (parameter_typed k [] (place_at ts) ty)) (sym nn);
+    others = λ t us q e. first_other t (sign_is T ts t us s q is) e;
+    extends = λ t ty v e. ap (λ o. m.on_typed t.word o k [] (place_at ts) ty) e ∙ ap (λ j. goes j (parameter_typed k [] (place_at ts) v)) (sym nn);
+    open_first = refl;
+    open_last = λ ty. refl;
+  })
     where
       first_type : (t : Lexeme) (ty : TypeWords) → sign_of_word t.word ≡ s → type_of (sign_of_word t.word) ≡ Some ty → m.on_parameters t.at (sign_of_word t.word) k ≡ goes (home_nesting k.home) (parameter_typed k [] t.at ty)
       first_type t ty w e = ap (λ x. m.on_parameters t.at x k) w ∙ ap (λ o. m.on_parameter t.at o k []) (ap type_of (sym w) ∙ e)
@@ -386,11 +362,11 @@ module _ (T : ℕ → Bool) where
   unfolding d.heading d.parameters
   heading_sim b at g p f h n ts nn may = sim_then T (expect T sign.LeftParen n ts) _ (run T ts (m.declared at g p f h)) (λ x. parameters_first (heading at g f h)) (λ x j us. Took T n j) (opened_by h) (λ x j us. Took T n j)
       (sim_expect T (m.declared at g p f h) (parameters_first (heading at g f h)) sign.LeftParen n ts refl
-        (λ t us q w. ap (λ x. m.on_declared at g p f h x) w ∙ ap (λ j. goes j (parameters_first (heading at g f h))) (sym nn))
-        (λ t us q w. other may (sign_of_word t.word) w (λ is. sign_is T ts t us sign.LeftParen q is)))
+      (λ t us q w. ap (λ x. m.on_declared at g p f h x) w ∙ ap (λ j. goes j (parameters_first (heading at g f h))) (sym nn))
+      (λ t us q w. other may (sign_of_word t.word) w (λ is. sign_is T ts t us sign.LeftParen q is)))
       (λ x j us l. sim_then T (d.parameters_by T b (sign_at us) j us) _ (run T us (parameters_first (heading at g f h))) (λ qs. header (heading at g f h) qs) (λ qs i vs. Took T j i) (opened_by h) (λ x j us. Took T n j)
-        (parameters_sim b (heading at g f h) j us (l.nesting ∙ nn) (sign_at us) refl)
-        (λ qs i vs e. (refl, record { nesting = e.nesting ∙ l.nesting })))
+      (parameters_sim b (heading at g f h) j us (l.nesting ∙ nn) (sign_at us) refl)
+      (λ qs i vs e. (refl, record { nesting = e.nesting ∙ l.nesting })))
     where
       is_void : (g : Return) (s : Sign) → g ≡ gives.Void → same s sign.LeftParen ≡ false → m.on_declared at g p f h s ≡ None
       is_void g sign.LeftParen v w = absurd cc
@@ -440,15 +416,15 @@ module _ (T : ℕ → Bool) where
       by_sign f j us g false is = sim_as T _ _ (run T us (item_named (naming at w [] h (place_at ts) f))) (opened_by h) (λ x i vs. Took T n i)
           (same_run T (m.declared at (gives.Value w) (place_at ts) f h) (item_named (naming at w [] h (place_at ts) f)) us refl (λ t vs q. plain (place_at ts) f (sign_of_word t.word) (ap (λ y. same y sign.LeftParen) (sign_is T us t vs (sign_at us) q refl) ∙ is)))
           (sim_then T (d.objects T b (place_at ts) f j us) _ (run T us (item_named (naming at w [] h (place_at ts) f))) (λ xs. conclude h (declaration.Objects at w xs)) (λ x i vs. Took T j i) (opened_by h) (λ x i vs. Took T n i)
-            (objects_sim b at w h (place_at ts) f j us (g.nesting ∙ nn))
-            (λ xs i vs l. (refl, record { nesting = l.nesting ∙ g.nesting })))
+          (objects_sim b at w h (place_at ts) f j us (g.nesting ∙ nn))
+          (λ xs i vs l. (refl, record { nesting = l.nesting ∙ g.nesting })))
 
   opening_sim : (b : ℕ) (s0 : State) (h : Home) (n : ℕ) (ts : List Lexeme) → n ≡ home_nesting h → Starts s0 h n ts → (s : Sign) → sign_at ts ≡ s → Sim T (d.opening_by T b (place_at ts) s n ts) (run T ts s0) (opened_by h) (λ x j us. Took T n j)
   opening_sim b s0 h n ts nn y sign.Void is = sim_then T (eat T n ts) _ (run T ts s0) (λ x. declaring (place_at ts) gives.Void h) (λ x j us. Took T n j) (opened_by h) (λ x j us. Took T n j)
       (sim_eat T s0 (declaring (place_at ts) gives.Void h) n ts y.ends (λ t us q. y.by_void t us q (sign_is T ts t us sign.Void q is)))
       (λ x j us g. sim_then T (name T j us) _ (run T us (declaring (place_at ts) gives.Void h)) (λ f. m.declared (place_at ts) gives.Void (place_at us) f h) (λ f i vs. Took T j i) (opened_by h) (λ x j us. Took T n j)
-        (name_sim (place_at ts) gives.Void h j us (g.nesting ∙ nn) (λ t vs q. refl))
-        (λ f i vs l. sim_weaker T _ _ (opened_by h) _ (λ x k ws. Took T n k) (λ x k ws e. record { nesting = e.nesting ∙ l.nesting ∙ g.nesting }) (heading_sim b (place_at ts) gives.Void (place_at us) f h i vs (l.nesting ∙ g.nesting ∙ nn) (inl refl))))
+      (name_sim (place_at ts) gives.Void h j us (g.nesting ∙ nn) (λ t vs q. refl))
+      (λ f i vs l. sim_weaker T _ _ (opened_by h) _ (λ x k ws. Took T n k) (λ x k ws e. record { nesting = e.nesting ∙ l.nesting ∙ g.nesting }) (heading_sim b (place_at ts) gives.Void (place_at us) f h i vs (l.nesting ∙ g.nesting ∙ nn) (inl refl))))
   opening_sim b s0 h n ts nn y s is = sim_then T (r.type_words T n ts) _ (run T ts s0) (λ ty. declaring (place_at ts) (gives.Value ty) h) (Typed T n) (opened_by h) (λ x j us. Took T n j)
       (types_sim T s0 (λ ty. declaring (place_at ts) (gives.Value ty) h) n ts (record {
         begins = y.by_type;

@@ -3,10 +3,9 @@ use denote.Hole.Carrier
 use Rattle.c_tree.specs.declared.syntax.Expr.{out-Expr}
 use denote.Enum.Bare.{same_true}
 use Rattle.c_grammar.specs.contracts.sign.Sign.{the_type}
-use Rattle.std.proofs.Common.{rules, ◌≡◌, ℕ, ℤ, zero, suc, ◌+◌, ◌<◌, ◌≤◌, Bool, true, false, cond, nat_le, nat_lt, ◌==◌, ◌&&◌, List, [], ◌∷◌, ◌++◌, length, map, Option, Some, None, Ok, Err, refl, sym, ap, subst, ◌∙◌, append_assoc, arith}
-use Rattle.std.proofs.lemmas.Bool.{and_parts, leb-true, le-leb, leb-false, and_from, ltb-true, ltb-false}
+use Rattle.std.proofs.Common.{rules, ◌≡◌, ℕ, zero, suc, ◌+◌, ◌<◌, ◌≤◌, Bool, true, false, cond, nat_le, nat_lt, ◌&&◌, List, [], ◌∷◌, ◌++◌, length, map, Option, Some, None, Ok, Err, refl, sym, ap, subst, ◌∙◌, arith}
+use Rattle.std.proofs.lemmas.Bool.{leb-true, le-leb, leb-false, ltb-true, ltb-false}
 use Rattle.std.proofs.lemmas.Bool.Decides.{nat_tests}
-use Rattle.std.proofs.lemmas.List.{append-nil}
 use Rattle.c_tree.specs.declared.token.At.{At}
 use Rattle.c_tree.specs.declared.syntax.TypeWords.{TypeWords}
 use Rattle.c_tree.specs.declared.syntax.TypeWords.TheVariants as words
@@ -20,23 +19,20 @@ use Rattle.c_tree.specs.declared.syntax.StepOperator.{StepOperator}
 use Rattle.c_tree.specs.declared.syntax.StepOperator.TheVariants as step_
 use Rattle.c_tree.specs.declared.syntax.Expr.{Expr}
 use Rattle.c_tree.specs.declared.syntax.Expr.TheVariants as tree
-use Rattle.c_tree.specs.declared.syntax.Expr.TheOpen.{Expr-F, Comma, Assign, Conditional, Binary, Cast, Unary, Before, After, Name, Element, Call, Number, Character, Paren}
 use Rattle.c_grammar.specs.declared.sign.Sign.{Sign}
 use Rattle.c_grammar.specs.declared.sign.Sign.TheVariants as sign
 use Rattle.c_grammar.specs.Words.{Word, a_name, a_number, a_character, a_sign, sign_of_word, Lexeme}
-use Rattle.c_grammar.specs.Operators.{precedence, binary_sign, assign_sign, unary_sign, step_sign}
-use Rattle.c_grammar.specs.Phrases.{Leaf, leaf, Said, Part, sub, stands, is_at, same_place, entry, behind, leaves_of, leaves_at, all_fit, marks_of, commas, the_sign, operator}
-use Rattle.c_grammar.specs.Grammar.{about, expression, type, assign}
-use Rattle.c_grammar.specs.Spelling.{Stands}
-use Rattle.c_reading.specs.Parsers.{Trouble, Wrong, Deep, Out, same, Read, Parser, ◌>>=◌, ◌>>◌, and_then, pure, wrong, out, peek, word_at, place_at, sign_at, eat, expect, more, deeper, counted, phrase}
+use Rattle.c_grammar.specs.Operators.{precedence}
+use Rattle.c_grammar.specs.Phrases.{Said, sub, behind, marks_of, commas, the_sign, operator}
+use Rattle.c_grammar.specs.Grammar.{about, type, assign}
+use Rattle.c_reading.specs.Parsers.{Wrong, Deep, Out, same, Read, Parser, ◌>>=◌, ◌>>◌, and_then, pure, wrong, word_at, place_at, sign_at, eat, expect, more, deeper, counted}
 use Rattle.c_reading.specs.Expressions as r
 use Rattle.c_reading.specs.Trees as q
 use Rattle.c_parser.proofs.Asked.{place_of, type_of, joined}
 use Rattle.c_parser.proofs.Machine as m
 use Rattle.c_parser.proofs.Machine.{State, operand, have, named, opened, casting, Frame, Use, step, run, Outcome, Next, goes, moved, at_end, hole, opens, entered, spot, first, Op, op_of, own, left, is_op, takes, push, fill, shut, offer, close_use}
 use Rattle.c_parser.proofs.Trees.{induction, said_comma, said_assign, said_conditional, said_binary, said_cast, said_unary, said_before, said_after, said_name, said_element, said_call, said_number, said_character, said_paren, place_comma, place_assign, place_conditional, place_binary, place_cast, place_unary, place_before, place_after, place_name, place_element, place_call, place_number, place_character, place_paren}
-use Rattle.c_parser.proofs.ExprRuns.{prec_low, prec_high, passes, pushed, never, entry_open, open_hole}
-use Rattle.c_parser.proofs.Runs.{lex}
+use Rattle.c_parser.proofs.ExprRuns.{prec_low, prec_high, passes, pushed}
 use Rattle.c_parser.proofs.Reached.{word_is}
 
 -- ---- the reading's questions
@@ -362,7 +358,7 @@ module _ (T : ℕ → Bool) where
   full : (e y : Expr) (f : Frame) (fs : List Frame) (u : Use) (ts : List Lexeme) → ((s : Sign) (more : Next) → shut f e fs u s more ≡ more) → Stop (hole (f ∷ fs) u) (op_of (sign_at ts)) e → fill f e ≡ y → run T ts (have e (f ∷ fs) u) ≡ run T ts (have y fs u)
   full e y f fs u ts through st is = same_run (have e (f ∷ fs) u) (have (fill f e) fs u) ts refl
       (λ t us q. let s : Sign = sign_of_word t.word in
-        ap (λ b. cond b (push (op_of s) e (f ∷ fs) u) (shut f e fs u s (offer s (fill f e) fs u))) (stop_takes (f ∷ fs) u (op_of s) e (subst (λ y. Stop (hole (f ∷ fs) u) (op_of y) e) (sym (sign_is ts t us (sign_at ts) q refl)) st)) ∙ through s (offer s (fill f e) fs u))
+      ap (λ b. cond b (push (op_of s) e (f ∷ fs) u) (shut f e fs u s (offer s (fill f e) fs u))) (stop_takes (f ∷ fs) u (op_of s) e (subst (λ y. Stop (hole (f ∷ fs) u) (op_of y) e) (sym (sign_is ts t us (sign_at ts) q refl)) st)) ∙ through s (offer s (fill f e) fs u))
       ∙ ap (λ z. run T ts (have z fs u)) is
 
   -- what the machine does behind an expression that no operator takes on
@@ -442,14 +438,14 @@ module _ (T : ℕ → Bool) where
     unfolding q.place_of
     comma_sim e fs u n ts h0 nn st sign.Comma is =
         sim_then (counted T n ts) _ (run T ts (have e fs u)) (λ x. operand (m.comma e ∷ fs) u) (λ x k us. Took (suc n) k) (λ x. have x fs u) (Got 0 (place_of e) (outside fs u))
-          (sim_counted (have e fs u) (operand (m.comma e ∷ fs) u) n ts refl (op_step e fs u m.commas ts n _ (ap op_of is) refl (omega (arith, h0)) (omega arith) (ap (λ k. goes k (operand (m.comma e ∷ fs) u)) (sym nn))))
-          (λ y k us g. sim_then (R r.assign k us) _ (run T us (operand (m.comma e ∷ fs) u)) (λ x. have x (m.comma e ∷ fs) u) (Got 1 (place_at us) (λ x. spot (m.comma e ∷ fs) u)) (λ x. have x fs u) (Got 0 (place_of e) (outside fs u))
-            (R_reads.assign (m.comma e ∷ fs) u k us (omega arith) (omega (arith, g.nesting, nn)))
-            (λ x l vs gx. let whole : Expr = tree.Comma (place_of e) e x in
-              sim_as (R (r.after_comma whole) l vs) (run T vs (have x (m.comma e ∷ fs) u)) (run T vs (have whole fs u)) (λ x. have x fs u) (Got 0 (place_of e) (outside fs u))
-              (full x whole (m.comma e) fs u vs (λ s more. refl) gx.stop refl)
-              (got_as _ _ fs u 0 0 (place_of whole) (place_of e) (outside fs u) (outside fs u) (λ z i ws gz. record { level = gz.level; place = gz.place ∙ place_comma (place_of e) e x; nesting = gz.nesting; stop = gz.stop })
-                (R_reads.after_comma whole fs u l vs h0 (omega (arith, gx.nesting, marks_comma (place_of e) e x (spot fs u))) (stop_same 1 _ x whole (omega (arith, ap (λ (s : Said). s.level) (said_comma (place_of e) e x))) gx.stop)))))
+        (sim_counted (have e fs u) (operand (m.comma e ∷ fs) u) n ts refl (op_step e fs u m.commas ts n _ (ap op_of is) refl (omega (arith, h0)) (omega arith) (ap (λ k. goes k (operand (m.comma e ∷ fs) u)) (sym nn))))
+        (λ y k us g. sim_then (R r.assign k us) _ (run T us (operand (m.comma e ∷ fs) u)) (λ x. have x (m.comma e ∷ fs) u) (Got 1 (place_at us) (λ x. spot (m.comma e ∷ fs) u)) (λ x. have x fs u) (Got 0 (place_of e) (outside fs u))
+        (R_reads.assign (m.comma e ∷ fs) u k us (omega arith) (omega (arith, g.nesting, nn)))
+        (λ x l vs gx. let whole : Expr = tree.Comma (place_of e) e x in
+        sim_as (R (r.after_comma whole) l vs) (run T vs (have x (m.comma e ∷ fs) u)) (run T vs (have whole fs u)) (λ x. have x fs u) (Got 0 (place_of e) (outside fs u))
+        (full x whole (m.comma e) fs u vs (λ s more. refl) gx.stop refl)
+        (got_as _ _ fs u 0 0 (place_of whole) (place_of e) (outside fs u) (outside fs u) (λ z i ws gz. record { level = gz.level; place = gz.place ∙ place_comma (place_of e) e x; nesting = gz.nesting; stop = gz.stop })
+        (R_reads.after_comma whole fs u l vs h0 (omega (arith, gx.nesting, marks_comma (place_of e) e x (spot fs u))) (stop_same 1 _ x whole (omega (arith, ap (λ (s : Said). s.level) (said_comma (place_of e) e x))) gx.stop)))))
     comma_sim e fs u n ts h0 nn st s is = (refl, record { level = omega arith; place = refl; nesting = nn; stop = stop_zero (op_of (sign_at ts)) e st (λ c. not_comma (sym (ap op_of is) ∙ c)) })
       where
         not_comma : op_of s ≡ m.commas → ⊥
@@ -459,7 +455,7 @@ module _ (T : ℕ → Bool) where
     expr_sim fs u n ts h nn = sim_then (R r.assign n ts) _ (run T ts (operand fs u)) (λ x. have x fs u) (Got 1 (place_at ts) (λ x. spot fs u)) (λ x. have x fs u) (Got 0 (place_at ts) (outside fs u))
         (R_reads.assign fs u n ts (omega (arith, h)) nn)
         (λ x k us g. got_as _ _ fs u 0 0 (place_of x) (place_at ts) (outside fs u) (outside fs u) (λ z i ws gz. record { level = gz.level; place = gz.place ∙ g.place; nesting = gz.nesting; stop = gz.stop })
-          (R_reads.after_comma x fs u k us h (g.nesting ∙ sym (behind_open (spot fs u) (about x) g.level)) g.stop))
+        (R_reads.after_comma x fs u k us h (g.nesting ∙ sym (behind_open (spot fs u) (about x) g.level)) g.stop))
 
     -- ---- assignments
 
@@ -477,11 +473,11 @@ module _ (T : ℕ → Bool) where
         by_unary o is true un =
             let fourteen : 14 ≤ (about e).level = leb-true 14 (about e).level (sym (unary_is e) ∙ un) in
             sim_then (counted T n ts) _ (run T ts (have e fs u)) (λ x. operand (m.assign e o ∷ fs) u) (λ x k us. Took (suc n) k) (λ x. have x fs u) (λ x k us. Left_side p x us)
-              (sim_counted (have e fs u) (operand (m.assign e o ∷ fs) u) n ts refl (op_step e fs u (m.assigns o) ts n _ is refl h fourteen (ap (λ k. goes k (operand (m.assign e o ∷ fs) u)) (sym nn))))
-              (λ y k us g. sim_then (R r.assign k us) _ (run T us (operand (m.assign e o ∷ fs) u)) (λ x. have x (m.assign e o ∷ fs) u) (Got 1 (place_at us) (λ x. spot (m.assign e o ∷ fs) u)) (λ x. have x fs u) (λ x k us. Left_side p x us)
-                (R_reads.assign (m.assign e o ∷ fs) u k us (omega arith) (omega (arith, g.nesting, nn)))
-                (λ x i vs gx. let whole : Expr = tree.Assign (place_of e) e o x in let lv = ap (λ (s : Said). s.level) (said_assign (place_of e) e o x) in
-                  (full x whole (m.assign e o) fs u vs (λ s more. refl) gx.stop refl, record { level = omega (arith, lv); place = place_assign (place_of e) e o x ∙ pl; stop = stop_same 1 _ x whole (omega (arith, lv)) gx.stop })))
+            (sim_counted (have e fs u) (operand (m.assign e o ∷ fs) u) n ts refl (op_step e fs u (m.assigns o) ts n _ is refl h fourteen (ap (λ k. goes k (operand (m.assign e o ∷ fs) u)) (sym nn))))
+            (λ y k us g. sim_then (R r.assign k us) _ (run T us (operand (m.assign e o ∷ fs) u)) (λ x. have x (m.assign e o ∷ fs) u) (Got 1 (place_at us) (λ x. spot (m.assign e o ∷ fs) u)) (λ x. have x fs u) (λ x k us. Left_side p x us)
+            (R_reads.assign (m.assign e o ∷ fs) u k us (omega arith) (omega (arith, g.nesting, nn)))
+            (λ x i vs gx. let whole : Expr = tree.Assign (place_of e) e o x in let lv = ap (λ (s : Said). s.level) (said_assign (place_of e) e o x) in
+            (full x whole (m.assign e o) fs u vs (λ s more. refl) gx.stop refl, record { level = omega (arith, lv); place = place_assign (place_of e) e o x ∙ pl; stop = stop_same 1 _ x whole (omega (arith, lv)) gx.stop })))
 
         by_assign : (o : Option AssignOperator) → q.assign_of (sign_at ts) ≡ o → Sim (r.assigned T R e o n ts) (run T ts (have e fs u)) (λ x. have x fs u) (λ x k us. Left_side p x us)
         by_assign None is = (refl, record { level = omega (arith, l); place = pl; stop = stop_one (op_of (sign_at ts)) e st (λ x c. absurd (assign_none (sign_at ts) x is c)) })
@@ -490,8 +486,8 @@ module _ (T : ℕ → Bool) where
     assign_sim : (fs : List Frame) (u : Use) (n : ℕ) (ts : List Lexeme) → hole fs u ≤ 1 → n ≡ spot fs u → Has (r.step T R r.assign n ts) ts (operand fs u) fs u 1 (place_at ts) (λ x. spot fs u)
     assign_sim fs u n ts h nn = sim_then (and_then (R r.conditional (suc n) ts) (r.after_left T R)) _ (run T ts (operand fs u)) (λ x. have x fs u) (λ x k us. Left_side (place_at ts) x us) (λ x. have x fs u) (Got 1 (place_at ts) (λ x. spot fs u))
         (sim_then (R r.conditional (suc n) ts) (r.after_left T R) (run T ts (operand fs u)) (λ x. have x fs u) (Got 2 (place_at ts) (inner fs u)) (λ x. have x fs u) (λ x k us. Left_side (place_at ts) x us)
-          (R_reads.conditional fs u (suc n) ts (omega (arith, h)) (ap suc nn ∙ sym (low_first fs u h)))
-          (λ x k us g. left_sim (place_at ts) x fs u k us h g.nesting g.level g.place g.stop))
+        (R_reads.conditional fs u (suc n) ts (omega (arith, h)) (ap suc nn ∙ sym (low_first fs u h)))
+        (λ x k us g. left_sim (place_at ts) x fs u k us h g.nesting g.level g.place g.stop))
         (λ x k us g. (refl, record { level = g.level; place = g.place; nesting = nn; stop = g.stop }))
 
     -- ---- operators
@@ -516,14 +512,14 @@ module _ (T : ℕ → Bool) where
             let left_ok : precedence o ≤ (about e).level = let d : Edge (m.joins o) e = subst (λ y. Edge y e) is ed in d in
             let hi2 = prec_high o in
             sim_then (counted T n ts) _ (run T ts (have e fs u)) (λ x. operand (m.binary e o ∷ fs) u) (λ x i us. Took (suc n) i) (λ x. have x fs u) (Got k (place_of e) (inner fs u))
-              (sim_counted (have e fs u) (operand (m.binary e o ∷ fs) u) n ts refl (op_step e fs u (m.joins o) ts n _ is refl (omega (arith, h, kk)) left_ok (ap (λ i. goes i (operand (m.binary e o ∷ fs) u)) (sym nn))))
-              (λ y i us g. sim_then (R (r.binary (suc (precedence o))) i us) _ (run T us (operand (m.binary e o ∷ fs) u)) (λ x. have x (m.binary e o ∷ fs) u) (Got (suc (precedence o)) (place_at us) (inner (m.binary e o ∷ fs) u)) (λ x. have x fs u) (Got k (place_of e) (inner fs u))
-                (R_reads.binary (suc (precedence o)) (m.binary e o ∷ fs) u i us (omega (arith, prec_low o)) (omega (arith, hi2)) (omega arith) (omega (arith, g.nesting, nn)))
-                (λ x j vs gx. let whole : Expr = tree.Binary (place_of e) e o x in let lv = ap (λ (s : Said). s.level) (said_binary (place_of e) e o x) in
-                  sim_as (R (r.after_operand k whole) j vs) (run T vs (have x (m.binary e o ∷ fs) u)) (run T vs (have whole fs u)) (λ x. have x fs u) (Got k (place_of e) (inner fs u))
-                  (full x whole (m.binary e o) fs u vs (λ s more. refl) gx.stop refl)
-                  (got_as _ _ fs u k k (place_of whole) (place_of e) (inner fs u) (inner fs u) (λ z i2 ws gz. record { level = gz.level; place = gz.place ∙ place_binary (place_of e) e o x; nesting = gz.nesting; stop = gz.stop })
-                    (R_reads.after_operand k whole fs u j vs lo hi h (omega (arith, lv, kk)) (gx.nesting ∙ sym (marks_binary (place_of e) e o x (first fs u))) (edge_of (suc (precedence o)) (op_of (sign_at vs)) x whole (omega (arith, hi2)) (omega (arith, lv)) gx.stop)))))
+            (sim_counted (have e fs u) (operand (m.binary e o ∷ fs) u) n ts refl (op_step e fs u (m.joins o) ts n _ is refl (omega (arith, h, kk)) left_ok (ap (λ i. goes i (operand (m.binary e o ∷ fs) u)) (sym nn))))
+            (λ y i us g. sim_then (R (r.binary (suc (precedence o))) i us) _ (run T us (operand (m.binary e o ∷ fs) u)) (λ x. have x (m.binary e o ∷ fs) u) (Got (suc (precedence o)) (place_at us) (inner (m.binary e o ∷ fs) u)) (λ x. have x fs u) (Got k (place_of e) (inner fs u))
+            (R_reads.binary (suc (precedence o)) (m.binary e o ∷ fs) u i us (omega (arith, prec_low o)) (omega (arith, hi2)) (omega arith) (omega (arith, g.nesting, nn)))
+            (λ x j vs gx. let whole : Expr = tree.Binary (place_of e) e o x in let lv = ap (λ (s : Said). s.level) (said_binary (place_of e) e o x) in
+            sim_as (R (r.after_operand k whole) j vs) (run T vs (have x (m.binary e o ∷ fs) u)) (run T vs (have whole fs u)) (λ x. have x fs u) (Got k (place_of e) (inner fs u))
+            (full x whole (m.binary e o) fs u vs (λ s more. refl) gx.stop refl)
+            (got_as _ _ fs u k k (place_of whole) (place_of e) (inner fs u) (inner fs u) (λ z i2 ws gz. record { level = gz.level; place = gz.place ∙ place_binary (place_of e) e o x; nesting = gz.nesting; stop = gz.stop })
+            (R_reads.after_operand k whole fs u j vs lo hi h (omega (arith, lv, kk)) (gx.nesting ∙ sym (marks_binary (place_of e) e o x (first fs u))) (edge_of (suc (precedence o)) (op_of (sign_at vs)) x whole (omega (arith, hi2)) (omega (arith, lv)) gx.stop)))))
 
         by_binary : (o : Option BinaryOperator) → q.binary_of (sign_at ts) ≡ o → Has (r.operated T R k e o n ts) ts (have e fs u) fs u k (place_of e) (inner fs u)
         by_binary None is = stays (λ x c. absurd (binary_none (sign_at ts) x is c))
@@ -533,7 +529,7 @@ module _ (T : ℕ → Bool) where
     binary_sim k fs u n ts lo hi h nn = sim_then (R r.cast n ts) _ (run T ts (operand fs u)) (λ x. have x fs u) (Got 13 (place_at ts) (inner fs u)) (λ x. have x fs u) (Got k (place_at ts) (inner fs u))
         (R_reads.cast fs u n ts (omega (arith, h, hi)) nn)
         (λ x i us g. got_as _ _ fs u k k (place_of x) (place_at ts) (inner fs u) (inner fs u) (λ z j ws gz. record { level = gz.level; place = gz.place ∙ g.place; nesting = gz.nesting; stop = gz.stop })
-          (R_reads.after_operand k x fs u i us lo hi h (omega (arith, hi, g.level)) g.nesting (edge_of 13 (op_of (sign_at us)) x x (omega arith) (omega (arith, g.level)) g.stop)))
+        (R_reads.after_operand k x fs u i us lo hi h (omega (arith, hi, g.level)) g.nesting (edge_of 13 (op_of (sign_at us)) x x (omega arith) (omega (arith, g.level)) g.stop)))
 
     -- ---- conditionals
 
@@ -549,23 +545,24 @@ module _ (T : ℕ → Bool) where
     branches_sim e fs u n ts nn = sim_then (R r.expr n ts) _ (run T ts (operand (m.question e ∷ fs) u)) (λ x. have x (m.question e ∷ fs) u) (Got 0 (place_at ts) (outside (m.question e ∷ fs) u)) (λ p. have p.1 (m.colon e p.0 ∷ fs) u) (Branches e fs u)
         (R_reads.expr (m.question e ∷ fs) u n ts refl nn)
         (λ a i us g. sim_then (expect T sign.Colon i us) _ (run T us (have a (m.question e ∷ fs) u)) (λ x. operand (m.colon e a ∷ fs) u) (λ x k vs. Took i k) (λ p. have p.1 (m.colon e p.0 ∷ fs) u) (Branches e fs u)
-          (sim_expect (have a (m.question e ∷ fs) u) (operand (m.colon e a ∷ fs) u) sign.Colon i us refl
-            (λ t vs q w. shuts a (m.question e) fs u us g.stop t vs q ∙ ap (λ x. m.on x sign.Colon (goes (outside (m.question e ∷ fs) u a) (operand (m.colon e a ∷ fs) u)) None) w ∙ ap (λ k. goes k (operand (m.colon e a ∷ fs) u)) (sym g.nesting))
-            (λ t vs q w. shuts a (m.question e) fs u us g.stop t vs q ∙ ap (λ b. cond b (goes (outside (m.question e ∷ fs) u a) (operand (m.colon e a ∷ fs) u)) None) w))
-          (λ y k vs gk. sim_then (R r.conditional k vs) _ (run T vs (operand (m.colon e a ∷ fs) u)) (λ x. have x (m.colon e a ∷ fs) u) (Got 2 (place_at vs) (inner (m.colon e a ∷ fs) u)) (λ p. have p.1 (m.colon e p.0 ∷ fs) u) (Branches e fs u)
-            (R_reads.conditional (m.colon e a ∷ fs) u k vs (omega arith) (gk.nesting ∙ g.nesting))
-            (λ b j ws gb. (refl, record { nesting = gb.nesting; stop = gb.stop }))))
+        (sim_expect (have a (m.question e ∷ fs) u) (operand (m.colon e a ∷ fs) u) sign.Colon i us refl
+        (λ t vs q w. shuts a (m.question e) fs u us g.stop t vs q ∙ ap (λ x. m.on x sign.Colon (goes (outside (m.question e ∷ fs) u a) (operand (m.colon e a ∷ fs) u)) None) w ∙ ap (λ k. goes k (operand (m.colon e a ∷ fs) u)) (sym g.nesting))
+        (λ t vs q w. shuts a (m.question e) fs u us g.stop t vs q ∙ ap (λ b. cond b (goes (outside (m.question e ∷ fs) u a) (operand (m.colon e a ∷ fs) u)) None) w))
+        (λ y k vs gk. sim_then (R r.conditional k vs) _ (run T vs (operand (m.colon e a ∷ fs) u)) (λ x. have x (m.colon e a ∷ fs) u) (Got 2 (place_at vs) (inner (m.colon e a ∷ fs) u)) (λ p. have p.1 (m.colon e p.0 ∷ fs) u) (Branches e fs u)
+        (R_reads.conditional (m.colon e a ∷ fs) u k vs (omega arith) (gk.nesting ∙ g.nesting))
+        (λ b j ws gb. (refl, record { nesting = gb.nesting; stop = gb.stop }))))
 
     question_sim : (p : At) (e : Expr) (fs : List Frame) (u : Use) (n : ℕ) (ts : List Lexeme) → hole fs u ≤ 2 → n ≡ inner fs u e → 3 ≤ (about e).level → place_of e ≡ p → Stop 3 (op_of (sign_at ts)) e → (s : Sign) → sign_at ts ≡ s → Has (r.conditional_by T R e s n ts) ts (have e fs u) fs u 2 p (inner fs u)
     unfolding q.place_of
     question_sim p e fs u n ts h nn l pl st sign.Question is =
         sim_then (counted T n ts) _ (run T ts (have e fs u)) (λ x. operand (m.question e ∷ fs) u) (λ x i us. Took (suc n) i) (λ x. have x fs u) (Got 2 p (inner fs u))
-          (sim_counted (have e fs u) (operand (m.question e ∷ fs) u) n ts refl (op_step e fs u m.asks ts n _ (ap op_of is) refl h l (ap (λ i. goes i (operand (m.question e ∷ fs) u)) (sym nn))))
-          (λ y i us g. sim_then (r.branches T R i us) _ (run T us (operand (m.question e ∷ fs) u)) (λ p. have p.1 (m.colon e p.0 ∷ fs) u) (Branches e fs u) (λ x. have x fs u) (Got 2 p (inner fs u))
-            (branches_sim e fs u i us (omega (arith, g.nesting, nn)))
-            (λ b j vs gb. let whole : Expr = tree.Conditional (place_of e) e b.0 b.1 in let lv = ap (λ (s : Said). s.level) (said_conditional (place_of e) e b.0 b.1) in
-              (full b.1 whole (m.colon e b.0) fs u vs (λ s more. refl) gb.stop refl,
-                record { level = omega (arith, lv); place = place_conditional (place_of e) e b.0 b.1 ∙ pl; nesting = gb.nesting ∙ sym (marks_conditional (place_of e) e b.0 b.1 (first fs u)); stop = stop_same 2 _ b.1 whole (omega (arith, lv)) gb.stop })))
+        (sim_counted (have e fs u) (operand (m.question e ∷ fs) u) n ts refl (op_step e fs u m.asks ts n _ (ap op_of is) refl h l (ap (λ i. goes i (operand (m.question e ∷ fs) u)) (sym nn))))
+        (λ y i us g. sim_then (r.branches T R i us) _ (run T us (operand (m.question e ∷ fs) u)) (λ p. have p.1 (m.colon e p.0 ∷ fs) u) (Branches e fs u) (λ x. have x fs u) (Got 2 p (inner fs u))
+        (branches_sim e fs u i us (omega (arith, g.nesting, nn)))
+        (λ b j vs gb. let whole : Expr = tree.Conditional (place_of e) e b.0 b.1 in let lv = ap (λ (s : Said). s.level) (said_conditional (place_of e) e b.0 b.1) in (
+          full b.1 whole (m.colon e b.0) fs u vs (λ s more. refl) gb.stop refl,
+          record { level = omega (arith, lv); place = place_conditional (place_of e) e b.0 b.1 ∙ pl; nesting = gb.nesting ∙ sym (marks_conditional (place_of e) e b.0 b.1 (first fs u)); stop = stop_same 2 _ b.1 whole (omega (arith, lv)) gb.stop },
+        )))
     question_sim p e fs u n ts h nn l pl st s is = (refl, record { level = omega (arith, l); place = pl; nesting = nn; stop = stop_two (op_of (sign_at ts)) e st (λ c. not_asks (sym (ap op_of is) ∙ c)) })
       where
         not_asks : op_of s ≡ m.asks → ⊥
@@ -586,9 +583,9 @@ module _ (T : ℕ → Bool) where
     behind_sim e o fs u n ts h l nn is =
         let whole : Expr = tree.After (place_of e) e o in
         sim_then (counted T n ts) _ (run T ts (have e fs u)) (λ x. have whole fs u) (λ x i us. Took (suc n) i) (λ x. have x fs u) (Got 14 (place_of e) (inner fs u))
-          (sim_counted (have e fs u) (have whole fs u) n ts refl (op_step e fs u (m.steps o) ts n _ is refl h l (ap (λ i. goes i (have whole fs u)) (sym nn))))
-          (λ y i us g. got_as _ _ fs u 14 14 (place_of whole) (place_of e) (inner fs u) (inner fs u) (λ z j ws gz. record { level = gz.level; place = gz.place ∙ place_after (place_of e) e o; nesting = gz.nesting; stop = gz.stop })
-            (R_reads.after_postfix whole fs u i us h (omega (arith, ap (λ (s : Said). s.level) (said_after (place_of e) e o))) (omega (arith, g.nesting, nn, marks_after (place_of e) e o (first fs u)))))
+        (sim_counted (have e fs u) (have whole fs u) n ts refl (op_step e fs u (m.steps o) ts n _ is refl h l (ap (λ i. goes i (have whole fs u)) (sym nn))))
+        (λ y i us g. got_as _ _ fs u 14 14 (place_of whole) (place_of e) (inner fs u) (inner fs u) (λ z j ws gz. record { level = gz.level; place = gz.place ∙ place_after (place_of e) e o; nesting = gz.nesting; stop = gz.stop })
+        (R_reads.after_postfix whole fs u i us h (omega (arith, ap (λ (s : Said). s.level) (said_after (place_of e) e o))) (omega (arith, g.nesting, nn, marks_after (place_of e) e o (first fs u)))))
 
     postfix_sim : (e : Expr) (fs : List Frame) (u : Use) (n : ℕ) (ts : List Lexeme) → hole fs u ≤ 15 → 15 ≤ (about e).level → n ≡ inner fs u e → (s : Sign) → sign_at ts ≡ s → Has (r.postfix_by T R e s n ts) ts (have e fs u) fs u 14 (place_of e) (inner fs u)
     postfix_sim e fs u n ts h l nn sign.Increment is = behind_sim e step_.Increment fs u n ts h l nn (ap op_of is)
@@ -612,11 +609,11 @@ module _ (T : ℕ → Bool) where
     parenthesis_sim at fs u n ts h nn = sim_then (R r.expr n ts) _ (run T ts (operand (m.paren at ∷ fs) u)) (λ x. have x (m.paren at ∷ fs) u) (Got 0 (place_at ts) (outside (m.paren at ∷ fs) u)) (λ x. have x fs u) (Got 14 at (inner fs u))
         (R_reads.expr (m.paren at ∷ fs) u n ts refl nn)
         (λ e i us g. let whole : Expr = tree.Paren at e in sim_then (expect T sign.RightParen i us) _ (run T us (have e (m.paren at ∷ fs) u)) (λ x. have whole fs u) (λ x k vs. Took i k) (λ x. have x fs u) (Got 14 at (inner fs u))
-          (sim_expect (have e (m.paren at ∷ fs) u) (have whole fs u) sign.RightParen i us refl
-            (λ t vs q w. shuts e (m.paren at) fs u us g.stop t vs q ∙ ap (λ x. m.on x sign.RightParen (goes (outside (m.paren at ∷ fs) u e) (have whole fs u)) None) w ∙ ap (λ k. goes k (have whole fs u)) (sym g.nesting))
-            (λ t vs q w. shuts e (m.paren at) fs u us g.stop t vs q ∙ ap (λ b. cond b (goes (outside (m.paren at ∷ fs) u e) (have whole fs u)) None) w))
-          (λ y k vs gk. got_as _ _ fs u 14 14 (place_of whole) at (inner fs u) (inner fs u) (λ z j ws gz. record { level = gz.level; place = gz.place ∙ place_paren at e; nesting = gz.nesting; stop = gz.stop })
-            (R_reads.after_postfix whole fs u k vs (omega (arith, h)) (omega (arith, ap (λ (s : Said). s.level) (said_paren at e))) (gk.nesting ∙ g.nesting ∙ sym (marks_paren at e (first fs u))))))
+        (sim_expect (have e (m.paren at ∷ fs) u) (have whole fs u) sign.RightParen i us refl
+        (λ t vs q w. shuts e (m.paren at) fs u us g.stop t vs q ∙ ap (λ x. m.on x sign.RightParen (goes (outside (m.paren at ∷ fs) u e) (have whole fs u)) None) w ∙ ap (λ k. goes k (have whole fs u)) (sym g.nesting))
+        (λ t vs q w. shuts e (m.paren at) fs u us g.stop t vs q ∙ ap (λ b. cond b (goes (outside (m.paren at ∷ fs) u e) (have whole fs u)) None) w))
+        (λ y k vs gk. got_as _ _ fs u 14 14 (place_of whole) at (inner fs u) (inner fs u) (λ z j ws gz. record { level = gz.level; place = gz.place ∙ place_paren at e; nesting = gz.nesting; stop = gz.stop })
+        (R_reads.after_postfix whole fs u k vs (omega (arith, h)) (omega (arith, ap (λ (s : Said). s.level) (said_paren at e))) (gk.nesting ∙ g.nesting ∙ sym (marks_paren at e (first fs u))))))
 
     called_sim : (at : At) (f : List ℕ) (fs : List Frame) (u : Use) (n : ℕ) (ts : List Lexeme) → n ≡ first fs u → (s : Sign) → sign_at ts ≡ s → Sim (r.called_by T R at f s n ts) (run T ts (m.either sign.RightParen (first fs u) (have (tree.Call at f []) fs u) (operand (m.arguments at f [] ∷ fs) u))) (λ x. have x fs u) (λ x n2 us. (15 ≤ (about x).level) × (place_of x ≡ at) × (n2 ≡ inner fs u x))
     called_sim at f fs u n ts nn sign.RightParen is = sim_then (eat T n ts) _ (run T ts (m.either sign.RightParen (first fs u) (have (tree.Call at f []) fs u) (operand (m.arguments at f [] ∷ fs) u))) (λ x. have (tree.Call at f []) fs u) (λ x k us. Took n k) (λ x. have x fs u) (λ x n2 us. (15 ≤ (about x).level) × (place_of x ≡ at) × (n2 ≡ inner fs u x))
@@ -637,38 +634,38 @@ module _ (T : ℕ → Bool) where
     call_end at f fs u n ts h nn = sim_then (r.called_by T R at f (sign_at ts) n ts) _ _ (λ x. have x fs u) (λ x n2 us. (15 ≤ (about x).level) × (place_of x ≡ at) × (n2 ≡ inner fs u x)) (λ x. have x fs u) (Got 14 at (inner fs u))
         (called_sim at f fs u n ts nn (sign_at ts) refl)
         (λ x k us g. got_as _ _ fs u 14 14 (place_of x) at (inner fs u) (inner fs u) (λ z j ws gz. record { level = gz.level; place = gz.place ∙ g.1; nesting = gz.nesting; stop = gz.stop })
-          (R_reads.after_postfix x fs u k us (omega (arith, h)) g.0 g.2))
+        (R_reads.after_postfix x fs u k us (omega (arith, h)) g.0 g.2))
 
     named_sim : (at : At) (f : List ℕ) (fs : List Frame) (u : Use) (n : ℕ) (ts : List Lexeme) → hole fs u ≤ 14 → n ≡ first fs u → (s : Sign) → sign_at ts ≡ s → Has (r.named_by T R at f s n ts) ts (named at f fs u) fs u 14 at (inner fs u)
     named_sim at f fs u n ts h nn sign.LeftParen is =
         sim_then (eat T n ts) _ (run T ts (named at f fs u)) (λ x. m.either sign.RightParen (first fs u) (have (tree.Call at f []) fs u) (operand (m.arguments at f [] ∷ fs) u)) (λ x k us. Took n k) (λ x. have x fs u) (Got 14 at (inner fs u))
-          (sim_eat (named at f fs u) (m.either sign.RightParen (first fs u) (have (tree.Call at f []) fs u) (operand (m.arguments at f [] ∷ fs) u)) n ts refl (λ t us q. ap (λ x. m.on_name at f fs u x) (sign_is ts t us sign.LeftParen q is) ∙ ap (λ k. goes k (m.either sign.RightParen (first fs u) (have (tree.Call at f []) fs u) (operand (m.arguments at f [] ∷ fs) u))) (sym nn)))
-          (λ y k us g. call_end at f fs u k us h (g.nesting ∙ nn))
+        (sim_eat (named at f fs u) (m.either sign.RightParen (first fs u) (have (tree.Call at f []) fs u) (operand (m.arguments at f [] ∷ fs) u)) n ts refl (λ t us q. ap (λ x. m.on_name at f fs u x) (sign_is ts t us sign.LeftParen q is) ∙ ap (λ k. goes k (m.either sign.RightParen (first fs u) (have (tree.Call at f []) fs u) (operand (m.arguments at f [] ∷ fs) u))) (sym nn)))
+        (λ y k us g. call_end at f fs u k us h (g.nesting ∙ nn))
     named_sim at f fs u n ts h nn sign.LeftBracket is =
         sim_then (eat T n ts) _ (run T ts (named at f fs u)) (λ x. operand (m.element at f ∷ fs) u) (λ x k us. Took n k) (λ x. have x fs u) (Got 14 at (inner fs u))
-          (sim_eat (named at f fs u) (operand (m.element at f ∷ fs) u) n ts refl (λ t us q. ap (λ x. m.on_name at f fs u x) (sign_is ts t us sign.LeftBracket q is) ∙ ap (λ k. goes k (operand (m.element at f ∷ fs) u)) (sym nn)))
-          (λ y k us g. sim_then (R r.expr k us) _ (run T us (operand (m.element at f ∷ fs) u)) (λ x. have x (m.element at f ∷ fs) u) (Got 0 (place_at us) (outside (m.element at f ∷ fs) u)) (λ x. have x fs u) (Got 14 at (inner fs u))
-            (R_reads.expr (m.element at f ∷ fs) u k us refl (g.nesting ∙ nn))
-            (λ e i vs ge. let whole : Expr = tree.Element at f e in sim_then (expect T sign.RightBracket i vs) _ (run T vs (have e (m.element at f ∷ fs) u)) (λ x. have whole fs u) (λ x j ws. Took i j) (λ x. have x fs u) (Got 14 at (inner fs u))
-              (sim_expect (have e (m.element at f ∷ fs) u) (have whole fs u) sign.RightBracket i vs refl
-                (λ t ws q w. shuts e (m.element at f) fs u vs ge.stop t ws q ∙ ap (λ x. m.on x sign.RightBracket (goes (outside (m.element at f ∷ fs) u e) (have whole fs u)) None) w ∙ ap (λ k. goes k (have whole fs u)) (sym ge.nesting))
-                (λ t ws q w. shuts e (m.element at f) fs u vs ge.stop t ws q ∙ ap (λ b. cond b (goes (outside (m.element at f ∷ fs) u e) (have whole fs u)) None) w))
-              (λ y2 j ws gj. got_as _ _ fs u 14 14 (place_of whole) at (inner fs u) (inner fs u) (λ z l os gz. record { level = gz.level; place = gz.place ∙ place_element at f e; nesting = gz.nesting; stop = gz.stop })
-                (R_reads.after_postfix whole fs u j ws (omega (arith, h)) (omega (arith, ap (λ (s : Said). s.level) (said_element at f e))) (gj.nesting ∙ ge.nesting ∙ sym (marks_element at f e (first fs u)))))))
+        (sim_eat (named at f fs u) (operand (m.element at f ∷ fs) u) n ts refl (λ t us q. ap (λ x. m.on_name at f fs u x) (sign_is ts t us sign.LeftBracket q is) ∙ ap (λ k. goes k (operand (m.element at f ∷ fs) u)) (sym nn)))
+        (λ y k us g. sim_then (R r.expr k us) _ (run T us (operand (m.element at f ∷ fs) u)) (λ x. have x (m.element at f ∷ fs) u) (Got 0 (place_at us) (outside (m.element at f ∷ fs) u)) (λ x. have x fs u) (Got 14 at (inner fs u))
+        (R_reads.expr (m.element at f ∷ fs) u k us refl (g.nesting ∙ nn))
+        (λ e i vs ge. let whole : Expr = tree.Element at f e in sim_then (expect T sign.RightBracket i vs) _ (run T vs (have e (m.element at f ∷ fs) u)) (λ x. have whole fs u) (λ x j ws. Took i j) (λ x. have x fs u) (Got 14 at (inner fs u))
+        (sim_expect (have e (m.element at f ∷ fs) u) (have whole fs u) sign.RightBracket i vs refl
+        (λ t ws q w. shuts e (m.element at f) fs u vs ge.stop t ws q ∙ ap (λ x. m.on x sign.RightBracket (goes (outside (m.element at f ∷ fs) u e) (have whole fs u)) None) w ∙ ap (λ k. goes k (have whole fs u)) (sym ge.nesting))
+        (λ t ws q w. shuts e (m.element at f) fs u vs ge.stop t ws q ∙ ap (λ b. cond b (goes (outside (m.element at f ∷ fs) u e) (have whole fs u)) None) w))
+        (λ y2 j ws gj. got_as _ _ fs u 14 14 (place_of whole) at (inner fs u) (inner fs u) (λ z l os gz. record { level = gz.level; place = gz.place ∙ place_element at f e; nesting = gz.nesting; stop = gz.stop })
+        (R_reads.after_postfix whole fs u j ws (omega (arith, h)) (omega (arith, ap (λ (s : Said). s.level) (said_element at f e))) (gj.nesting ∙ ge.nesting ∙ sym (marks_element at f e (first fs u)))))))
     named_sim at f fs u n ts h nn s is =
         let name : Expr = tree.Name at f in
         sim_as (R (r.after_postfix name) n ts) (run T ts (named at f fs u)) (run T ts (have name fs u)) (λ x. have x fs u) (Got 14 at (inner fs u))
-          (same_run (named at f fs u) (have name fs u) ts refl (λ t us q. let w = sign_is ts t us s q is in ap (λ x. m.on_name at f fs u x) w ∙ ap (λ x. offer x name fs u) (sym w)))
-          (got_as _ _ fs u 14 14 (place_of name) at (inner fs u) (inner fs u) (λ z l os gz. record { level = gz.level; place = gz.place ∙ place_name at f; nesting = gz.nesting; stop = gz.stop })
-            (R_reads.after_postfix name fs u n ts (omega (arith, h)) (omega (arith, ap (λ (s : Said). s.level) (said_name at f))) (omega (arith, nn, ap (λ (s : Said). s.marks) (said_name at f)))))
+        (same_run (named at f fs u) (have name fs u) ts refl (λ t us q. let w = sign_is ts t us s q is in ap (λ x. m.on_name at f fs u x) w ∙ ap (λ x. offer x name fs u) (sym w)))
+        (got_as _ _ fs u 14 14 (place_of name) at (inner fs u) (inner fs u) (λ z l os gz. record { level = gz.level; place = gz.place ∙ place_name at f; nesting = gz.nesting; stop = gz.stop })
+        (R_reads.after_postfix name fs u n ts (omega (arith, h)) (omega (arith, ap (λ (s : Said). s.level) (said_name at f))) (omega (arith, nn, ap (λ (s : Said). s.marks) (said_name at f)))))
 
     -- an operand of one word
     literal_sim : (at : At) (e : Expr) (w : Word) (fs : List Frame) (u : Use) (n : ℕ) (ts : List Lexeme) → hole fs u ≤ 14 → n ≡ first fs u → word_at ts ≡ w → at ≡ place_at ts → ((q : At) → m.on_operand at w fs u ≡ goes (first fs u) (have e fs u)) → 15 ≤ (about e).level → place_of e ≡ at → (about e).marks ≡ 0 → Has (and_then (eat T n ts) (λ x. R (r.after_postfix e))) ts (operand fs u) fs u 14 at (inner fs u)
     literal_sim at e w fs u n ts h nn is here does l pl mk =
         sim_then (eat T n ts) _ (run T ts (operand fs u)) (λ x. have e fs u) (λ x k us. Took n k) (λ x. have x fs u) (Got 14 at (inner fs u))
-          (sim_eat (operand fs u) (have e fs u) n ts refl (λ t us q. ap (λ y. m.on_operand t.at y fs u) (word_at_is ts t us w q is) ∙ ap (λ y. m.on_operand y w fs u) (place_is ts t us q ∙ sym here) ∙ does at ∙ ap (λ k. goes k (have e fs u)) (sym nn)))
-          (λ y k us g. got_as _ _ fs u 14 14 (place_of e) at (inner fs u) (inner fs u) (λ z j ws gz. record { level = gz.level; place = gz.place ∙ pl; nesting = gz.nesting; stop = gz.stop })
-            (R_reads.after_postfix e fs u k us (omega (arith, h)) l (omega (arith, g.nesting, nn, mk))))
+        (sim_eat (operand fs u) (have e fs u) n ts refl (λ t us q. ap (λ y. m.on_operand t.at y fs u) (word_at_is ts t us w q is) ∙ ap (λ y. m.on_operand y w fs u) (place_is ts t us q ∙ sym here) ∙ does at ∙ ap (λ k. goes k (have e fs u)) (sym nn)))
+        (λ y k us g. got_as _ _ fs u 14 14 (place_of e) at (inner fs u) (inner fs u) (λ z j ws gz. record { level = gz.level; place = gz.place ∙ pl; nesting = gz.nesting; stop = gz.stop })
+        (R_reads.after_postfix e fs u k us (omega (arith, h)) l (omega (arith, g.nesting, nn, mk))))
 
     primary_sim : (at : At) (fs : List Frame) (u : Use) (n : ℕ) (ts : List Lexeme) → hole fs u ≤ 14 → n ≡ first fs u → at ≡ place_at ts → ((x : Sign) → word_at ts ≡ a_sign x → m.prefix at x fs u ≡ None) → (w : Word) → word_at ts ≡ w → Has (r.primary_by T R at w n ts) ts (operand fs u) fs u 14 at (inner fs u)
     unfolding r.named
@@ -695,9 +692,11 @@ module _ (T : ℕ → Bool) where
     stepped_sim at o x fs u n ts h nn is other here does = sim_then (counted T n ts) _ (run T ts (operand fs u)) (λ x. operand (m.before at o ∷ fs) u) (λ x k us. Took (suc n) k) (λ x. have x fs u) (Got 14 at (inner fs u))
         (sim_counted (operand fs u) (operand (m.before at o ∷ fs) u) n ts refl (prefix_step ts x at fs u n _ is other here (does ∙ ap (λ k. goes k (operand (m.before at o ∷ fs) u)) (sym nn))))
         (λ y k us g. sim_then (R r.unary k us) _ (run T us (operand (m.before at o ∷ fs) u)) (λ x. have x (m.before at o ∷ fs) u) (Got 14 (place_at us) (inner (m.before at o ∷ fs) u)) (λ x. have x fs u) (Got 14 at (inner fs u))
-          (R_reads.unary (m.before at o ∷ fs) u k us (omega arith) (λ le. absurd (omega (arith, le))) (omega (arith, g.nesting, nn)))
-          (λ e i vs ge. let whole : Expr = tree.Before at o e in (full e whole (m.before at o) fs u vs (λ s more. refl) ge.stop refl,
-            record { level = omega (arith, ap (λ (s : Said). s.level) (said_before at o e)); place = place_before at o e; nesting = omega (arith, ge.nesting, ap (λ (s : Said). s.marks) (said_before at o e)); stop = stop_other (op_of (sign_at vs)) e whole ge.stop })))
+        (R_reads.unary (m.before at o ∷ fs) u k us (omega arith) (λ le. absurd (omega (arith, le))) (omega (arith, g.nesting, nn)))
+        (λ e i vs ge. let whole : Expr = tree.Before at o e in (
+          full e whole (m.before at o) fs u vs (λ s more. refl) ge.stop refl,
+          record { level = omega (arith, ap (λ (s : Said). s.level) (said_before at o e)); place = place_before at o e; nesting = omega (arith, ge.nesting, ap (λ (s : Said). s.marks) (said_before at o e)); stop = stop_other (op_of (sign_at vs)) e whole ge.stop },
+        )))
       where
         stop_other : (o : Op) (e y : Expr) → Stop 14 o e → Stop 14 o y
         stop_other (m.assigns o) e y h = λ g. absurd (omega (arith, g))
@@ -712,9 +711,11 @@ module _ (T : ℕ → Bool) where
     signed_sim at o x fs u n ts h nn is other here does = sim_then (counted T n ts) _ (run T ts (operand fs u)) (λ x. operand (m.unary at o ∷ fs) u) (λ x k us. Took (suc n) k) (λ x. have x fs u) (Got 14 at (inner fs u))
         (sim_counted (operand fs u) (operand (m.unary at o ∷ fs) u) n ts refl (prefix_step ts x at fs u n _ is other here (does ∙ ap (λ k. goes k (operand (m.unary at o ∷ fs) u)) (sym nn))))
         (λ y k us g. sim_then (R r.cast k us) _ (run T us (operand (m.unary at o ∷ fs) u)) (λ x. have x (m.unary at o ∷ fs) u) (Got 13 (place_at us) (inner (m.unary at o ∷ fs) u)) (λ x. have x fs u) (Got 14 at (inner fs u))
-          (R_reads.cast (m.unary at o ∷ fs) u k us (omega arith) (omega (arith, g.nesting, nn)))
-          (λ e i vs ge. let whole : Expr = tree.Unary at o e in (full e whole (m.unary at o) fs u vs (λ s more. refl) ge.stop refl,
-            record { level = omega (arith, ap (λ (s : Said). s.level) (said_unary at o e)); place = place_unary at o e; nesting = omega (arith, ge.nesting, ap (λ (s : Said). s.marks) (said_unary at o e)); stop = stop_other (op_of (sign_at vs)) e whole ge.stop })))
+        (R_reads.cast (m.unary at o ∷ fs) u k us (omega arith) (omega (arith, g.nesting, nn)))
+        (λ e i vs ge. let whole : Expr = tree.Unary at o e in (
+          full e whole (m.unary at o) fs u vs (λ s more. refl) ge.stop refl,
+          record { level = omega (arith, ap (λ (s : Said). s.level) (said_unary at o e)); place = place_unary at o e; nesting = omega (arith, ge.nesting, ap (λ (s : Said). s.marks) (said_unary at o e)); stop = stop_other (op_of (sign_at vs)) e whole ge.stop },
+        )))
       where
         stop_other : (o : Op) (e y : Expr) → Stop 13 o e → Stop 14 o y
         stop_other (m.assigns o) e y h = λ g. absurd (omega (arith, g))
@@ -735,8 +736,8 @@ module _ (T : ℕ → Bool) where
     unary_sim at fs u n ts h np nn here sign.LeftParen is = sim_then (eat T n ts) _ (run T ts (operand fs u)) (λ x. opened at fs u) (λ x k us. Took n k) (λ x. have x fs u) (Got 14 at (inner fs u))
         (sim_eat (operand fs u) (opened at fs u) n ts refl (prefix_step ts sign.LeftParen at fs u n _ is refl here (ap (λ k. goes k (opened at fs u)) (sym nn))))
         (λ y k us g. sim_as (r.parenthesis T R at k us) (run T us (opened at fs u)) (run T us (operand (m.paren at ∷ fs) u)) (λ x. have x fs u) (Got 14 at (inner fs u))
-          (same_run (opened at fs u) (operand (m.paren at ∷ fs) u) us refl (λ t vs q. never_type t.at t.word (type_of (sign_of_word t.word)) refl))
-          (parenthesis_sim at fs u k us h (g.nesting ∙ nn)))
+        (same_run (opened at fs u) (operand (m.paren at ∷ fs) u) us refl (λ t vs q. never_type t.at t.word (type_of (sign_of_word t.word)) refl))
+        (parenthesis_sim at fs u k us h (g.nesting ∙ nn)))
       where
         high : nat_le (hole fs u) 13 ≡ false
         high = by_hole (nat_le (hole fs u) 13) refl
@@ -781,12 +782,12 @@ module _ (T : ℕ → Bool) where
     cast_end : (at : At) (ty : TypeWords) (fs : List Frame) (u : Use) (n : ℕ) (ts : List Lexeme) → n ≡ first fs u → joined ty (sign_at ts) ≡ None → Has ((expect T sign.RightParen >>= (λ x. deeper >>= (λ y. R r.cast >>= (λ e. pure (tree.Cast at ty e))))) n ts) ts (casting at ty fs u) fs u 13 at (inner fs u)
     cast_end at ty fs u n ts nn none = sim_then (expect T sign.RightParen n ts) _ (run T ts (casting at ty fs u)) (λ x. operand (m.cast at ty ∷ fs) u) (λ x k us. Took n k) (λ x. have x fs u) (Got 13 at (inner fs u))
         (sim_expect (casting at ty fs u) (operand (m.cast at ty ∷ fs) u) sign.RightParen n ts refl
-          (λ t us q w. at_none t us q ∙ ap (λ x. m.on x sign.RightParen (goes (first fs u) (operand (m.cast at ty ∷ fs) u)) None) w ∙ ap (λ k. goes k (operand (m.cast at ty ∷ fs) u)) (sym nn))
-          (λ t us q w. at_none t us q ∙ ap (λ b. cond b (goes (first fs u) (operand (m.cast at ty ∷ fs) u)) None) w))
+        (λ t us q w. at_none t us q ∙ ap (λ x. m.on x sign.RightParen (goes (first fs u) (operand (m.cast at ty ∷ fs) u)) None) w ∙ ap (λ k. goes k (operand (m.cast at ty ∷ fs) u)) (sym nn))
+        (λ t us q w. at_none t us q ∙ ap (λ b. cond b (goes (first fs u) (operand (m.cast at ty ∷ fs) u)) None) w))
         (λ y k us g. sim_then (R r.cast (suc k) us) _ (run T us (operand (m.cast at ty ∷ fs) u)) (λ x. have x (m.cast at ty ∷ fs) u) (Got 13 (place_at us) (inner (m.cast at ty ∷ fs) u)) (λ x. have x fs u) (Got 13 at (inner fs u))
-          (R_reads.cast (m.cast at ty ∷ fs) u (suc k) us (omega arith) (omega (arith, g.nesting, nn)))
-          (λ e i vs ge. let whole : Expr = tree.Cast at ty e in let lv = ap (λ (s : Said). s.level) (said_cast at ty e) in
-            (full e whole (m.cast at ty) fs u vs (λ s more. refl) ge.stop refl, record { level = omega (arith, lv); place = place_cast at ty e; nesting = ge.nesting ∙ sym (marks_cast at ty e (first fs u)); stop = stop_same 13 _ e whole (omega (arith, lv)) ge.stop })))
+        (R_reads.cast (m.cast at ty ∷ fs) u (suc k) us (omega arith) (omega (arith, g.nesting, nn)))
+        (λ e i vs ge. let whole : Expr = tree.Cast at ty e in let lv = ap (λ (s : Said). s.level) (said_cast at ty e) in
+        (full e whole (m.cast at ty) fs u vs (λ s more. refl) ge.stop refl, record { level = omega (arith, lv); place = place_cast at ty e; nesting = ge.nesting ∙ sym (marks_cast at ty e (first fs u)); stop = stop_same 13 _ e whole (omega (arith, lv)) ge.stop })))
       where
         at_none : (t : Lexeme) (us : List Lexeme) → ts ≡ t ∷ us → step (casting at ty fs u) t ≡ m.on (sign_of_word t.word) sign.RightParen (goes (first fs u) (operand (m.cast at ty ∷ fs) u)) None
         at_none t us q = ap (λ o. m.on_casting at ty (sign_of_word t.word) o fs u) (ap (λ x. joined ty x) (sign_is ts t us (sign_at ts) q refl) ∙ none)
@@ -847,11 +848,11 @@ module _ (T : ℕ → Bool) where
     call_sim at f es fs u n ts nn = sim_then (R r.assign n ts) _ (run T ts (operand (m.arguments at f es ∷ fs) u)) (λ x. have x (m.arguments at f es ∷ fs) u) (Got 1 (place_at ts) (λ x. spot (m.arguments at f es ∷ fs) u)) (λ x. have x fs u) (Called at fs u)
         (R_reads.assign (m.arguments at f es ∷ fs) u n ts (omega arith) nn)
         (λ x k us g. sim_then (more T sign.RightParen k us) _ (run T us (have x (m.arguments at f es ∷ fs) u)) (λ b. cond b (operand (m.arguments at f (es ++ x ∷ []) ∷ fs) u) (have (tree.Call at f (es ++ x ∷ [])) fs u)) (λ b i vs. Took k i) (λ x. have x fs u) (Called at fs u)
-          (sim_more (have x (m.arguments at f es ∷ fs) u) (operand (m.arguments at f (es ++ x ∷ []) ∷ fs) u) (have (tree.Call at f (es ++ x ∷ [])) fs u) sign.RightParen k us refl
-            (λ t vs q w. shuts x (m.arguments at f es) fs u us g.stop t vs q ∙ ap (λ y. shut (m.arguments at f es) x fs u y (offer (sign_of_word t.word) (fill (m.arguments at f es) x) fs u)) w ∙ ap (λ i. goes i (operand (m.arguments at f (es ++ x ∷ []) ∷ fs) u)) (sym g.nesting))
-            (λ t vs q w. shuts x (m.arguments at f es) fs u us g.stop t vs q ∙ ap (λ y. shut (m.arguments at f es) x fs u y (offer (sign_of_word t.word) (fill (m.arguments at f es) x) fs u)) w ∙ ap (λ i. goes i (have (tree.Call at f (es ++ x ∷ [])) fs u)) (sym g.nesting))
-            (λ t vs q c d. shuts x (m.arguments at f es) fs u us g.stop t vs q ∙ ap (λ b. cond b (goes (first fs u) (operand (m.arguments at f (es ++ x ∷ []) ∷ fs) u)) (m.on (sign_of_word t.word) sign.RightParen (goes (first fs u) (have (tree.Call at f (es ++ x ∷ [])) fs u)) None)) c ∙ ap (λ b. cond b (goes (first fs u) (have (tree.Call at f (es ++ x ∷ [])) fs u)) None) d))
-          (λ b i vs gi. onward x b i vs (gi.nesting ∙ g.nesting)))
+        (sim_more (have x (m.arguments at f es ∷ fs) u) (operand (m.arguments at f (es ++ x ∷ []) ∷ fs) u) (have (tree.Call at f (es ++ x ∷ [])) fs u) sign.RightParen k us refl
+        (λ t vs q w. shuts x (m.arguments at f es) fs u us g.stop t vs q ∙ ap (λ y. shut (m.arguments at f es) x fs u y (offer (sign_of_word t.word) (fill (m.arguments at f es) x) fs u)) w ∙ ap (λ i. goes i (operand (m.arguments at f (es ++ x ∷ []) ∷ fs) u)) (sym g.nesting))
+        (λ t vs q w. shuts x (m.arguments at f es) fs u us g.stop t vs q ∙ ap (λ y. shut (m.arguments at f es) x fs u y (offer (sign_of_word t.word) (fill (m.arguments at f es) x) fs u)) w ∙ ap (λ i. goes i (have (tree.Call at f (es ++ x ∷ [])) fs u)) (sym g.nesting))
+        (λ t vs q c d. shuts x (m.arguments at f es) fs u us g.stop t vs q ∙ ap (λ b. cond b (goes (first fs u) (operand (m.arguments at f (es ++ x ∷ []) ∷ fs) u)) (m.on (sign_of_word t.word) sign.RightParen (goes (first fs u) (have (tree.Call at f (es ++ x ∷ [])) fs u)) None)) c ∙ ap (λ b. cond b (goes (first fs u) (have (tree.Call at f (es ++ x ∷ [])) fs u)) None) d))
+        (λ b i vs gi. onward x b i vs (gi.nesting ∙ g.nesting)))
       where
         onward : (x : Expr) (b : Bool) (i : ℕ) (vs : List Lexeme) → i ≡ first fs u → Sim ((cond b (R (r.in_call at f (es ++ x ∷ []))) (pure (tree.Call at f (es ++ x ∷ [])))) i vs) (run T vs (cond b (operand (m.arguments at f (es ++ x ∷ []) ∷ fs) u) (have (tree.Call at f (es ++ x ∷ [])) fs u))) (λ x. have x fs u) (Called at fs u)
         onward x true i vs e = R_reads.in_call at f (es ++ x ∷ []) fs u i vs e

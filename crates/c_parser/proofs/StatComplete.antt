@@ -1,20 +1,11 @@
 -- The machine over the words of a statement comes to have that statement, and over those of a program to its end.
-use denote.Enum.Bare.{same_true}
-use Rattle.c_grammar.specs.contracts.sign.Sign.{the_type}
-use Rattle.std.proofs.Common.{rules, ◌≡◌, ℕ, ℤ, zero, suc, ◌+◌, ◌<◌, ◌≤◌, Bool, true, false, cond, nat_le, ◌==◌, ◌&&◌, List, [], ◌∷◌, ◌++◌, length, map, Option, Some, None, Ok, Err, refl, sym, ap, subst, ◌∙◌, append_assoc, arith}
-use Rattle.std.proofs.lemmas.Bool.{and_parts, leb-true, le-leb, leb-false, and_from}
-use Rattle.std.proofs.lemmas.Bool.Decides.{nat_tests}
+use Rattle.std.proofs.Common.{◌≡◌, ℕ, suc, ◌≤◌, Bool, true, false, cond, nat_le, ◌&&◌, List, [], ◌∷◌, ◌++◌, map, Option, Some, None, Ok, refl, sym, ap, subst, ◌∙◌, append_assoc, arith}
+use Rattle.std.proofs.lemmas.Bool.{and_parts, leb-true}
 use Rattle.std.proofs.lemmas.List.{append-nil}
 use Rattle.c_tree.specs.declared.token.At.{At}
 use Rattle.c_tree.specs.declared.syntax.TypeWords.{TypeWords}
 use Rattle.c_tree.specs.declared.syntax.TypeWords.TheVariants as words
 use Rattle.c_tree.specs.declared.syntax.Expr.{Expr}
-use Rattle.c_tree.specs.declared.syntax.Expr.TheVariants as tree
-use Rattle.c_tree.specs.declared.syntax.Size.{Size}
-use Rattle.c_tree.specs.declared.syntax.Size.TheVariants as size
-use Rattle.c_tree.specs.declared.syntax.Initialiser.{Initialiser}
-use Rattle.c_tree.specs.declared.syntax.Initialiser.TheVariants as initialiser
-use Rattle.c_tree.specs.declared.syntax.Item.{Item}
 use Rattle.c_tree.specs.declared.syntax.Return.{Return}
 use Rattle.c_tree.specs.declared.syntax.Return.TheVariants as gives
 use Rattle.c_tree.specs.declared.syntax.Parameter.{Parameter}
@@ -24,25 +15,23 @@ use Rattle.c_tree.specs.declared.syntax.Declaration.{Declaration}
 use Rattle.c_tree.specs.declared.syntax.Declaration.TheVariants as declaration
 use Rattle.c_grammar.specs.declared.sign.Sign.{Sign}
 use Rattle.c_grammar.specs.declared.sign.Sign.TheVariants as sign
-use Rattle.c_grammar.specs.Words.{Word, a_name, a_number, a_character, a_sign, sign_of_word, Lexeme}
-use Rattle.c_grammar.specs.Phrases.{Leaf, leaf, Said, Part, sub, stands, is_at, same_place, entry, behind, leaves_of, leaves_at, all_fit, open_, expr, item, piece, commas, node, phrase, each, the_sign, operator}
-use Rattle.c_grammar.specs.Grammar.{about, type, value, maybe, started, condition, constant, statement_part, braces, block, declared, statement, about_statement, returned, called, listed, parameter, part, program}
+use Rattle.c_grammar.specs.Words.{Word, a_sign, sign_of_word, Lexeme}
+use Rattle.c_grammar.specs.Phrases.{Leaf, leaf, Said, Part, stands, is_at, entry, behind, leaves_of, leaves_at, all_fit, open_, item, piece, commas, node, each, the_sign}
+use Rattle.c_grammar.specs.Grammar.{about, maybe, started, condition, statement_part, block, declared, about_statement, returned, called, listed, parameter, part, program}
 use Rattle.c_tree.specs.declared.syntax.Start.{Start}
 use Rattle.c_tree.specs.declared.syntax.Start.TheVariants as start
 use Rattle.c_tree.specs.declared.syntax.Statement.{Statement}
 use Rattle.c_tree.specs.declared.syntax.Statement.TheVariants as tree_
-use Rattle.c_tree.specs.declared.syntax.Statement.TheOpen as s
 use Rattle.c_tree.specs.declared.syntax.External.{External}
 use Rattle.c_tree.specs.declared.syntax.External.TheVariants as external
 use Rattle.c_tree.specs.declared.syntax.Syntax.{Syntax}
-use Rattle.c_grammar.specs.Spelling.{Stands}
-use Rattle.c_reading.specs.Parsers.{Wrong, Deep, same}
-use Rattle.c_parser.proofs.Asked.{place_of, type_of, joined}
+use Rattle.c_reading.specs.Parsers.{same}
+use Rattle.c_parser.proofs.Asked.{place_of, type_of}
 use Rattle.c_parser.proofs.Machine as m
 use Rattle.c_parser.proofs.Machine.{State, operand, have, want, got, Use, Under, step, run, Outcome, Next, goes, moved, hole, first, outer, use_hole, op_of, closes, close_use, close_block, is_block, inside, add, maybe_behind, start_behind, for_test, for_next, offer, Home, home_nesting, conclude, header, either, expect}
-use Rattle.c_parser.proofs.Trees.{at_of, stat_induction, told_block, told_declared, told_evaluate, told_if, told_if_else, told_while, told_dowhile, told_for, told_switch, told_case, told_default, told_break, told_continue, told_return}
-use Rattle.c_parser.proofs.Runs.{lex, head_sign, starts, Met, met_as, took, took_any, skip, alike, type_leaves, type_at_leaves}
-use Rattle.c_parser.proofs.ExprRuns.{not_sign, Fit, fit, placed, binds, entry_open, Follow, follow_none, heads}
+use Rattle.c_parser.proofs.Trees.{stat_induction, told_block, told_declared, told_evaluate, told_if, told_if_else, told_while, told_dowhile, told_for, told_switch, told_case, told_default, told_break, told_continue, told_return}
+use Rattle.c_parser.proofs.Runs.{lex, head_sign, starts, Met, met_as, took, skip, alike, type_leaves, type_at_leaves}
+use Rattle.c_parser.proofs.ExprRuns.{not_sign, fit, placed, binds, entry_open, follow_none, heads}
 use Rattle.c_parser.proofs.ExprComplete.{complete}
 use Rattle.c_parser.proofs.DeclComplete.{Opens, declaration_run, heading_run}
 
@@ -308,13 +297,13 @@ module _ (T : ℕ → Bool) where
       → ((us : List Under) (q : At) → m.on_statement q (a_sign word) word us ≡ Some (suc (inside us), expect sign.Semicolon (suc (inside us)) (s2 us q))) → ((us : List Under) → s2 us at ≡ got x us) → Good x
   jump_good x at word h is s2 does ends fits = subst (λ s. Claims x s) (sym is) (from_all _ _ (omega arith)
       (λ us r l ts v mt go. begins us (λ q. expect sign.Semicolon (suc (inside us)) (s2 us q)) word at _ _ h (does us) ts v mt
-        (λ vs mv. took T (expect sign.Semicolon (suc (inside us)) (s2 us at)) (s2 us at) vs v (λ q st. refl) mv (λ xs mx. ap (λ s. run T xs s) (ends us) ∙ go xs mx))))
+      (λ vs mv. took T (expect sign.Semicolon (suc (inside us)) (s2 us at)) (s2 us at) vs v (λ q st. refl) mv (λ xs mx. ap (λ s. run T xs s) (ends us) ∙ go xs mx))))
 
   declared_good : (d : Declaration) → Good (tree_.Declared d)
   declared_good d fits = subst (λ s. Claims (tree_.Declared d) s) (sym (told_declared d)) (record {
-      all = λ one. absurd (low d one);
-      item = λ us h r l ts v mt go. declaration_run T d (m.at_block us) (want us) (opens_block us h) (subst (λ (s : Said). s.fits ≡ true) (told_declared d) fits) r ts v (met_as T ts _ _ (ap (λ n. (declared d).leaves n r) (low_entry d (inside us))) mt) go;
-    })
+    all = λ one. absurd (low d one);
+    item = λ us h r l ts v mt go. declaration_run T d (m.at_block us) (want us) (opens_block us h) (subst (λ (s : Said). s.fits ≡ true) (told_declared d) fits) r ts v (met_as T ts _ _ (ap (λ n. (declared d).leaves n r) (low_entry d (inside us))) mt) go;
+  })
     where
       low : (d : Declaration) → 1 ≤ (declared d).level → ⊥
       low (declaration.Objects at t is) h = omega (arith, h)
@@ -332,13 +321,13 @@ module _ (T : ℕ → Bool) where
       let p = and_parts (is_at at (about e).at) _ f0 in
       subst (λ s. Claims (tree_.Evaluate at (Some e)) s) (sym (told_evaluate at (Some e))) (from_all _ _ (omega arith)
       (λ us r l ts v mt go. skip T (want us) (operand [] (m.evaluate us)) refl ts (wanted_value us) (heads e _ _) mt
-        ∙ value_run e (m.evaluate us) sign.Semicolon (got (tree_.Evaluate (place_of e) (Some e)) us) refl refl refl refl (and_parts (about e).fits _ p.1).0 r ts v mt
-          (λ vs mv. ap (λ z. run T vs (got (tree_.Evaluate z (Some e)) us)) (sym (placed at e p.0)) ∙ go vs mv)))
+      ∙ value_run e (m.evaluate us) sign.Semicolon (got (tree_.Evaluate (place_of e) (Some e)) us) refl refl refl refl (and_parts (about e).fits _ p.1).0 r ts v mt
+      (λ vs mv. ap (λ z. run T vs (got (tree_.Evaluate z (Some e)) us)) (sym (placed at e p.0)) ∙ go vs mv)))
 
   return_good : (at : At) (e : Option Expr) → Good (tree_.Return at e)
   return_good at e fits = subst (λ s. Claims (tree_.Return at e) s) (sym (told_return at e)) (from_all _ _ (omega arith)
       (λ us r l ts v mt go. begins us (λ q. either sign.Semicolon (suc (inside us)) (got (tree_.Return q None) us) (operand [] (m.return_ q us))) sign.Return at _ _ refl (λ q. refl) ts v mt
-        (λ vs mv. maybe_run e (m.return_ at us) sign.Semicolon (λ x. got (tree_.Return at x) us) [] refl refl refl refl refl (λ x. refl) (subst (λ (s : Said). s.fits ≡ true) (told_return at e) fits) r vs v mv go)))
+      (λ vs mv. maybe_run e (m.return_ at us) sign.Semicolon (λ x. got (tree_.Return at x) us) [] refl refl refl refl refl (λ x. refl) (subst (λ (s : Said). s.fits ≡ true) (told_return at e) fits) r vs v mv go)))
 
   -- ---- statements with a statement
 
@@ -348,9 +337,9 @@ module _ (T : ℕ → Bool) where
       let q = part_fit 1 a true p.1 in
       subst (λ s. Claims (tree_.While at e a) s) (sym (told_while at e a)) (from_all _ _ q.level
       (λ us r l ts v mt go. begins us (λ z. expect sign.LeftParen (suc (inside us)) (operand [] (m.while_ z us))) sign.While at _ _ refl (λ z. refl) ts v mt
-        (λ vs mv. condition_run e (m.while_ at us) (want (m.in_while at e ∷ us)) (statement_part (about_statement a) ∷ []) refl refl p.0 r vs v mv
-          (λ xs mx. (ga q.fits).all q.level (m.in_while at e ∷ us) r l xs v mx
-            (λ ys my. alike T (got a (m.in_while at e ∷ us)) (got (tree_.While at e a) us) ys r refl (λ t st. refl) my ∙ go ys my)))))
+      (λ vs mv. condition_run e (m.while_ at us) (want (m.in_while at e ∷ us)) (statement_part (about_statement a) ∷ []) refl refl p.0 r vs v mv
+      (λ xs mx. (ga q.fits).all q.level (m.in_while at e ∷ us) r l xs v mx
+      (λ ys my. alike T (got a (m.in_while at e ∷ us)) (got (tree_.While at e a) us) ys r refl (λ t st. refl) my ∙ go ys my)))))
 
   if_good : (at : At) (e : Expr) (a : Statement) → Good a → Good (tree_.If at e a None)
   if_good at e a ga fits =
@@ -358,10 +347,10 @@ module _ (T : ℕ → Bool) where
       let q = part_fit 1 a true p.1 in
       subst (λ s. Claims (tree_.If at e a None) s) (sym (told_if at e a)) (from_all _ _ (omega arith)
       (λ us r l ts v mt go. begins us (λ z. expect sign.LeftParen (suc (inside us)) (operand [] (m.if_ z us))) sign.If at _ _ refl (λ z. refl) ts v mt
-        (λ vs mv. condition_run e (m.if_ at us) (want (m.in_if at e ∷ us)) (statement_part (about_statement a) ∷ []) refl refl p.0 r vs v mv
-          (λ xs mx. (ga q.fits).all q.level (m.in_if at e ∷ us) r (record { holds = λ z. l.holds refl }) xs v mx
-            (λ ys my. alike T (got a (m.in_if at e ∷ us)) (got (tree_.If at e a None) us) ys r refl
-                (λ t st. ap (λ b. cond b (goes (inside (m.in_if at e ∷ us)) (want (m.in_else at e a ∷ us))) (step (got (tree_.If at e a None) us) t)) (ap (λ z. same z sign.Else) st ∙ l.holds refl)) my ∙ go ys my)))))
+      (λ vs mv. condition_run e (m.if_ at us) (want (m.in_if at e ∷ us)) (statement_part (about_statement a) ∷ []) refl refl p.0 r vs v mv
+      (λ xs mx. (ga q.fits).all q.level (m.in_if at e ∷ us) r (record { holds = λ z. l.holds refl }) xs v mx
+      (λ ys my. alike T (got a (m.in_if at e ∷ us)) (got (tree_.If at e a None) us) ys r refl
+      (λ t st. ap (λ b. cond b (goes (inside (m.in_if at e ∷ us)) (want (m.in_else at e a ∷ us))) (step (got (tree_.If at e a None) us) t)) (ap (λ z. same z sign.Else) st ∙ l.holds refl)) my ∙ go ys my)))))
 
   if_else_good : (at : At) (e : Expr) (a b : Statement) → Good a → Good b → Good (tree_.If at e a (Some b))
   if_else_good at e a b ga gb fits =
@@ -370,11 +359,11 @@ module _ (T : ℕ → Bool) where
       let o = part_fit 1 b true q.rest in
       subst (λ s. Claims (tree_.If at e a (Some b)) s) (sym (told_if_else at e a b)) (from_all _ _ o.level
       (λ us r l ts v mt go. begins us (λ z. expect sign.LeftParen (suc (inside us)) (operand [] (m.if_ z us))) sign.If at _ _ refl (λ z. refl) ts v mt
-        (λ vs mv. condition_run e (m.if_ at us) (want (m.in_if at e ∷ us)) (open_ 2 (about_statement a) ∷ the_sign sign.Else ∷ statement_part (about_statement b) ∷ []) refl refl p.0 r vs v mv
-          (λ xs mx. (ga q.fits).all (omega (arith, q.level)) (m.in_if at e ∷ us) _ (record { holds = λ z. absurd (omega (arith, z, q.level)) }) xs v mx
-            (λ ys my. took T (got a (m.in_if at e ∷ us)) (want (m.in_else at e a ∷ us)) ys v (λ z st. refl) my
-              (λ zs mz. (gb o.fits).all o.level (m.in_else at e a ∷ us) r l zs v mz
-                (λ ws mw. alike T (got b (m.in_else at e a ∷ us)) (got (tree_.If at e a (Some b)) us) ws r refl (λ t st. refl) mw ∙ go ws mw)))))))
+      (λ vs mv. condition_run e (m.if_ at us) (want (m.in_if at e ∷ us)) (open_ 2 (about_statement a) ∷ the_sign sign.Else ∷ statement_part (about_statement b) ∷ []) refl refl p.0 r vs v mv
+      (λ xs mx. (ga q.fits).all (omega (arith, q.level)) (m.in_if at e ∷ us) _ (record { holds = λ z. absurd (omega (arith, z, q.level)) }) xs v mx
+      (λ ys my. took T (got a (m.in_if at e ∷ us)) (want (m.in_else at e a ∷ us)) ys v (λ z st. refl) my
+      (λ zs mz. (gb o.fits).all o.level (m.in_else at e a ∷ us) r l zs v mz
+      (λ ws mw. alike T (got b (m.in_else at e a ∷ us)) (got (tree_.If at e a (Some b)) us) ws r refl (λ t st. refl) mw ∙ go ws mw)))))))
 
   dowhile_good : (at : At) (a : Statement) (e : Expr) → Good a → Good (tree_.DoWhile at a e)
   dowhile_good at a e ga fits =
@@ -382,10 +371,10 @@ module _ (T : ℕ → Bool) where
       let p = and_parts (about e).fits _ q.rest in
       subst (λ s. Claims (tree_.DoWhile at a e) s) (sym (told_dowhile at a e)) (from_all _ _ (omega arith)
       (λ us r l ts v mt go. begins us (λ z. want (m.in_do z ∷ us)) sign.Do at _ _ refl (λ z. refl) ts v mt
-        (λ vs mv. (ga q.fits).all q.level (m.in_do at ∷ us) _ (record { holds = λ z. refl }) vs v mv
-          (λ xs mx. took T (got a (m.in_do at ∷ us)) (expect sign.LeftParen (suc (inside us)) (operand [] (m.do_ at a us))) xs v (λ z st. refl) mx
-            (λ ys my. condition_run e (m.do_ at a us) (expect sign.Semicolon (behind (suc (inside us)) (about e)) (got (tree_.DoWhile at a e) us)) (the_sign sign.Semicolon ∷ []) refl refl p.0 r ys v my
-              (λ zs mz. took T (expect sign.Semicolon (behind (suc (inside us)) (about e)) (got (tree_.DoWhile at a e) us)) (got (tree_.DoWhile at a e) us) zs v (λ z st. refl) mz go))))))
+      (λ vs mv. (ga q.fits).all q.level (m.in_do at ∷ us) _ (record { holds = λ z. refl }) vs v mv
+      (λ xs mx. took T (got a (m.in_do at ∷ us)) (expect sign.LeftParen (suc (inside us)) (operand [] (m.do_ at a us))) xs v (λ z st. refl) mx
+      (λ ys my. condition_run e (m.do_ at a us) (expect sign.Semicolon (behind (suc (inside us)) (about e)) (got (tree_.DoWhile at a e) us)) (the_sign sign.Semicolon ∷ []) refl refl p.0 r ys v my
+      (λ zs mz. took T (expect sign.Semicolon (behind (suc (inside us)) (about e)) (got (tree_.DoWhile at a e) us)) (got (tree_.DoWhile at a e) us) zs v (λ z st. refl) mz go))))))
 
   case_good : (at : At) (e : Expr) (a : Statement) → Good a → Good (tree_.Case at e a)
   case_good at e a ga fits =
@@ -393,19 +382,19 @@ module _ (T : ℕ → Bool) where
       let q = part_fit 1 a true p.rest in
       subst (λ s. Claims (tree_.Case at e a) s) (sym (told_case at e a)) (from_all _ _ q.level
       (λ us r l ts v mt go. begins us (λ z. operand [] (m.case_ z us)) sign.Case at _ _ refl (λ z. refl) ts v mt
-        (λ vs mv. (complete T e p.fits).all (omega (arith, p.level)) [] (m.case_ at us) p.level _ (follow_none _ _ refl) vs v mv
-          (λ xs mx. took T (have e [] (m.case_ at us)) (want (m.in_case at e ∷ us)) xs v (λ z st. refl) mx
-            (λ ys my. (ga q.fits).all q.level (m.in_case at e ∷ us) r l ys v my
-              (λ zs mz. alike T (got a (m.in_case at e ∷ us)) (got (tree_.Case at e a) us) zs r refl (λ t st. refl) mz ∙ go zs mz))))))
+      (λ vs mv. (complete T e p.fits).all (omega (arith, p.level)) [] (m.case_ at us) p.level _ (follow_none _ _ refl) vs v mv
+      (λ xs mx. took T (have e [] (m.case_ at us)) (want (m.in_case at e ∷ us)) xs v (λ z st. refl) mx
+      (λ ys my. (ga q.fits).all q.level (m.in_case at e ∷ us) r l ys v my
+      (λ zs mz. alike T (got a (m.in_case at e ∷ us)) (got (tree_.Case at e a) us) zs r refl (λ t st. refl) mz ∙ go zs mz))))))
 
   default_good : (at : At) (a : Statement) → Good a → Good (tree_.Default at a)
   default_good at a ga fits =
       let q = part_fit 1 a true (subst (λ (s : Said). s.fits ≡ true) (told_default at a) fits) in
       subst (λ s. Claims (tree_.Default at a) s) (sym (told_default at a)) (from_all _ _ q.level
       (λ us r l ts v mt go. begins us (λ z. expect sign.Colon (suc (inside us)) (want (m.in_default z ∷ us))) sign.Default at _ _ refl (λ z. refl) ts v mt
-        (λ xs mx. took T (expect sign.Colon (suc (inside us)) (want (m.in_default at ∷ us))) (want (m.in_default at ∷ us)) xs v (λ z st. refl) mx
-            (λ ys my. (ga q.fits).all q.level (m.in_default at ∷ us) r l ys v my
-              (λ zs mz. alike T (got a (m.in_default at ∷ us)) (got (tree_.Default at a) us) zs r refl (λ t st. refl) mz ∙ go zs mz)))))
+      (λ xs mx. took T (expect sign.Colon (suc (inside us)) (want (m.in_default at ∷ us))) (want (m.in_default at ∷ us)) xs v (λ z st. refl) mx
+      (λ ys my. (ga q.fits).all q.level (m.in_default at ∷ us) r l ys v my
+      (λ zs mz. alike T (got a (m.in_default at ∷ us)) (got (tree_.Default at a) us) zs r refl (λ t st. refl) mz ∙ go zs mz)))))
 
   started_run : (at : At) (us : List Under) (b : Start) (more : List Part) → all_fit (started b ++ more) ≡ true → (r : List Leaf)
       → Goal (m.for_first at us) (for_test at b us) (leaves_of (started b ++ more) (suc (inside us)) r) (leaves_of more (start_behind (suc (inside us)) b) r)
@@ -451,12 +440,12 @@ module _ (T : ℕ → Bool) where
       let q = part_fit 1 a true (maybe_fits n (the_sign sign.RightParen ∷ last) f2) in
       subst (λ s. Claims (tree_.For at b t n a) s) (sym (told_for at b t n a)) (from_all _ _ q.level
       (λ us r l ts v mt go. begins us (λ z. expect sign.LeftParen (suc (inside us)) (m.for_first z us)) sign.For at _ _ refl (λ z. refl) ts v mt
-        (λ vs mv. took T (expect sign.LeftParen (suc (inside us)) (m.for_first at us)) (m.for_first at us) vs v (λ z st. refl) mv
-          (λ ws mw. started_run at us b (maybe t ++ the_sign sign.Semicolon ∷ third) f0 r ws v mw
-            (λ xs mx. maybe_run t (m.test_ at b us) sign.Semicolon (λ x. for_next at b x us) third refl refl refl refl refl (λ x. refl) f1 r xs v mx
-              (λ ys my. maybe_run n (m.next_ at b t us) sign.RightParen (λ x. want (m.in_for at b t x ∷ us)) last refl refl refl refl refl (λ x. refl) f2 r ys v my
-                (λ zs mz. (ga q.fits).all q.level (m.in_for at b t n ∷ us) r l zs v mz
-                  (λ os mo. alike T (got a (m.in_for at b t n ∷ us)) (got (tree_.For at b t n a) us) os r refl (λ t st. refl) mo ∙ go os mo))))))))
+      (λ vs mv. took T (expect sign.LeftParen (suc (inside us)) (m.for_first at us)) (m.for_first at us) vs v (λ z st. refl) mv
+      (λ ws mw. started_run at us b (maybe t ++ the_sign sign.Semicolon ∷ third) f0 r ws v mw
+      (λ xs mx. maybe_run t (m.test_ at b us) sign.Semicolon (λ x. for_next at b x us) third refl refl refl refl refl (λ x. refl) f1 r xs v mx
+      (λ ys my. maybe_run n (m.next_ at b t us) sign.RightParen (λ x. want (m.in_for at b t x ∷ us)) last refl refl refl refl refl (λ x. refl) f2 r ys v my
+      (λ zs mz. (ga q.fits).all q.level (m.in_for at b t n ∷ us) r l zs v mz
+      (λ os mo. alike T (got a (m.in_for at b t n ∷ us)) (got (tree_.For at b t n a) us) os r refl (λ t st. refl) mo ∙ go os mo))))))))
 
   -- ---- blocks
 
@@ -485,8 +474,8 @@ module _ (T : ℕ → Bool) where
       let f0 : ((true && all_fit (closed xs)) && true) ≡ true = (and_parts _ _ (subst (λ (s : Said). s.fits ≡ true) (told_block at (trees xs)) fits)).1 in
       subst (λ s. Claims (tree_.Block at (trees xs)) s) (sym (told_block at (trees xs))) (from_all _ _ (omega arith)
       (λ us r l ts v mt go. begins us (λ z. want (m.in_block z [] ∷ us)) sign.LeftBrace at _ _ refl (λ z. refl) ts v mt
-        (λ vs mv. items_run (m.in_block at [] ∷ us) refl xs (and_parts _ _ f0).0 r vs v mv
-          (λ ys my. ap (λ s. run T ys s) (ap after_block (adds_block (trees xs) [] at us)) ∙ go ys my))))
+      (λ vs mv. items_run (m.in_block at [] ∷ us) refl xs (and_parts _ _ f0).0 r vs v mv
+      (λ ys my. ap (λ s. run T ys s) (ap after_block (adds_block (trees xs) [] at us)) ∙ go ys my))))
 
   switch_good : (at : At) (e : Expr) (xs : List Known) → Good (tree_.Switch at e (trees xs))
   switch_good at e xs fits =
@@ -494,10 +483,10 @@ module _ (T : ℕ → Bool) where
       let f0 : ((all_fit (closed xs)) && true) ≡ true = p.1 in
       subst (λ s. Claims (tree_.Switch at e (trees xs)) s) (sym (told_switch at e (trees xs))) (from_all _ _ (omega arith)
       (λ us r l ts v mt go. begins us (λ z. expect sign.LeftParen (suc (inside us)) (operand [] (m.switch_ z us))) sign.Switch at _ _ refl (λ z. refl) ts v mt
-        (λ vs mv. condition_run e (m.switch_ at us) (expect sign.LeftBrace (suc (behind (suc (inside us)) (about e))) (want (m.in_switch at e [] ∷ us))) (block (map about_statement (trees xs)) ∷ []) refl refl p.0 r vs v mv
-          (λ ws mw. took T (expect sign.LeftBrace (suc (behind (suc (inside us)) (about e))) (want (m.in_switch at e [] ∷ us))) (want (m.in_switch at e [] ∷ us)) ws v (λ z st. refl) mw
-            (λ xs2 mx. items_run (m.in_switch at e [] ∷ us) refl xs (and_parts _ _ f0).0 r xs2 v mx
-              (λ ys my. ap (λ s. run T ys s) (ap after_block (adds_switch (trees xs) [] at e us)) ∙ go ys my))))))
+      (λ vs mv. condition_run e (m.switch_ at us) (expect sign.LeftBrace (suc (behind (suc (inside us)) (about e))) (want (m.in_switch at e [] ∷ us))) (block (map about_statement (trees xs)) ∷ []) refl refl p.0 r vs v mv
+      (λ ws mw. took T (expect sign.LeftBrace (suc (behind (suc (inside us)) (about e))) (want (m.in_switch at e [] ∷ us))) (want (m.in_switch at e [] ∷ us)) ws v (λ z st. refl) mw
+      (λ xs2 mx. items_run (m.in_switch at e [] ∷ us) refl xs (and_parts _ _ f0).0 r xs2 v mx
+      (λ ys my. ap (λ s. run T ys s) (ap after_block (adds_switch (trees xs) [] at e us)) ∙ go ys my))))))
 
   pub complete_statement : (x : Statement) → Good x
   complete_statement = stat_induction Good (record {
@@ -564,8 +553,8 @@ module _ (T : ℕ → Bool) where
       let f2 : (all_fit (closed (known body)) && true) ≡ true = subst (λ l. (all_fit (each item (map about_statement l) ++ the_sign sign.RightBrace ∷ []) && true) ≡ true) (sym (known_trees body)) (listed_fits qs _ (returned_fits g (bodied n qs body) f1)) in
       heading_run T at g n qs (block (map about_statement body) ∷ []) (m.at_top ps) (m.program ps) (opens_top ps) f1 r ts v mt
       (λ vs mv. took T (header (record { at = at; gives = g; name = n; home = m.at_top ps }) qs) (want (m.in_body ps at g n qs [] ∷ [])) vs v (λ z st. refl) mv
-        (λ ws mw. items_run (m.in_body ps at g n qs [] ∷ []) refl (known body) (and_parts _ _ f2).0 r ws v (met_as T ws _ _ (ap (λ l. leaves_of (each item (map about_statement l) ++ the_sign sign.RightBrace ∷ []) 1 r) (sym (known_trees body))) mw)
-          (λ ys my. ap (λ s. run T ys s) (ap after_block (adds_body (trees (known body)) [] ps at g n qs [] ∙ ap (λ l. m.in_body ps at g n qs l ∷ []) (known_trees body))) ∙ go ys my)))
+      (λ ws mw. items_run (m.in_body ps at g n qs [] ∷ []) refl (known body) (and_parts _ _ f2).0 r ws v (met_as T ws _ _ (ap (λ l. leaves_of (each item (map about_statement l) ++ the_sign sign.RightBrace ∷ []) 1 r) (sym (known_trees body))) mw)
+      (λ ys my. ap (λ s. run T ys s) (ap after_block (adds_body (trees (known body)) [] ps at g n qs [] ∙ ap (λ l. m.in_body ps at g n qs l ∷ []) (known_trees body))) ∙ go ys my)))
 
   parts_run : (xs ps : List External) → all_fit (each piece (map part xs) ++ the_sign sign.End ∷ []) ≡ true → (ts : List Lexeme) → Met T ts (leaves_of (each piece (map part xs) ++ the_sign sign.End ∷ []) 0 []) → run T ts (m.program ps) ≡ Ok (ps ++ xs)
   parts_run [] ps fits ts mt = took T (m.program ps) (m.finished ps) ts (Ok (ps ++ [])) (λ q st. refl) mt finish

@@ -1,67 +1,37 @@
 -- The reading of statements and programs does what the machine does.
-use denote.Hole.Carrier
-use Rattle.c_tree.specs.declared.syntax.Expr.{out-Expr}
 use denote.Enum.Bare.{same_true}
 use Rattle.c_grammar.specs.contracts.sign.Sign.{the_type}
-use Rattle.std.proofs.Common.{rules, ◌⊎◌, inl, inr, ◌≡◌, ℕ, ℤ, zero, suc, ◌+◌, ◌<◌, ◌≤◌, Bool, true, false, cond, nat_le, nat_lt, ◌==◌, ◌&&◌, List, [], ◌∷◌, ◌++◌, length, map, Option, Some, None, Ok, Err, refl, sym, ap, subst, ◌∙◌, append_assoc, arith}
-use Rattle.std.proofs.lemmas.Bool.{and_parts, leb-true, le-leb, leb-false, and_from, ltb-true, ltb-false}
-use Rattle.std.proofs.lemmas.Bool.Decides.{nat_tests}
-use Rattle.std.proofs.lemmas.List.{append-nil}
+use Rattle.std.proofs.Common.{rules, inr, ◌≡◌, ℕ, zero, suc, Bool, true, false, cond, List, [], ◌∷◌, ◌++◌, Option, Some, None, Ok, Err, refl, sym, ap, subst, ◌∙◌, arith}
 use Rattle.c_tree.specs.declared.token.At.{At}
 use Rattle.c_tree.specs.declared.syntax.TypeWords.{TypeWords}
-use Rattle.c_tree.specs.declared.syntax.TypeWords.TheVariants as words
-use Rattle.c_tree.specs.declared.syntax.BinaryOperator.{BinaryOperator}
-use Rattle.c_tree.specs.declared.syntax.BinaryOperator.TheVariants as binary_
-use Rattle.c_tree.specs.declared.syntax.AssignOperator.{AssignOperator}
-use Rattle.c_tree.specs.declared.syntax.AssignOperator.TheVariants as assign_
-use Rattle.c_tree.specs.declared.syntax.UnaryOperator.{UnaryOperator}
-use Rattle.c_tree.specs.declared.syntax.UnaryOperator.TheVariants as unary_
-use Rattle.c_tree.specs.declared.syntax.StepOperator.{StepOperator}
-use Rattle.c_tree.specs.declared.syntax.StepOperator.TheVariants as step_
 use Rattle.c_tree.specs.declared.syntax.Expr.{Expr}
-use Rattle.c_tree.specs.declared.syntax.Expr.TheVariants as tree
-use Rattle.c_tree.specs.declared.syntax.Expr.TheOpen.{Expr-F, Comma, Assign, Conditional, Binary, Cast, Unary, Before, After, Name, Element, Call, Number, Character, Paren}
 use Rattle.c_grammar.specs.declared.sign.Sign.{Sign}
 use Rattle.c_grammar.specs.declared.sign.Sign.TheVariants as sign
-use Rattle.c_grammar.specs.Words.{Word, a_name, a_number, a_character, a_sign, sign_of_word, Lexeme}
-use Rattle.c_grammar.specs.Operators.{precedence, binary_sign, assign_sign, unary_sign, step_sign}
-use Rattle.c_grammar.specs.Phrases.{Leaf, leaf, Said, Part, sub, stands, is_at, same_place, entry, behind, leaves_of, leaves_at, all_fit, marks_of, commas, the_sign, operator}
-use Rattle.c_grammar.specs.Grammar.{about, expression, type, assign}
-use Rattle.c_grammar.specs.Spelling.{Stands}
-use Rattle.c_reading.specs.Parsers.{Trouble, Wrong, Deep, Out, same, Read, Parser, ◌>>=◌, ◌>>◌, and_then, pure, wrong, out, peek, word_at, place_at, sign_at, eat, expect, more, deeper, counted, phrase}
+use Rattle.c_grammar.specs.Words.{Word, a_sign, sign_of_word, Lexeme}
+use Rattle.c_grammar.specs.Phrases.{behind}
+use Rattle.c_grammar.specs.Grammar.{about}
+use Rattle.c_reading.specs.Parsers.{Wrong, Deep, Out, same, Read, Parser, ◌>>=◌, ◌>>◌, and_then, pure, place_at, sign_at, eat, expect}
 use Rattle.c_reading.specs.Expressions as r
 use Rattle.c_reading.specs.Trees as q
-use Rattle.c_parser.proofs.Asked.{place_of, type_of, joined}
-use Rattle.c_tree.specs.declared.syntax.Size.{Size}
-use Rattle.c_tree.specs.declared.syntax.Size.TheVariants as size
-use Rattle.c_tree.specs.declared.syntax.Initialiser.{Initialiser}
-use Rattle.c_tree.specs.declared.syntax.Initialiser.TheVariants as initialiser
-use Rattle.c_tree.specs.declared.syntax.Item.{Item}
+use Rattle.c_parser.proofs.Asked.{place_of, type_of}
 use Rattle.c_tree.specs.declared.syntax.Return.{Return}
 use Rattle.c_tree.specs.declared.syntax.Return.TheVariants as gives
-use Rattle.c_tree.specs.declared.syntax.Parameter.{Parameter}
 use Rattle.c_tree.specs.declared.syntax.Parameters.{Parameters}
-use Rattle.c_tree.specs.declared.syntax.Parameters.TheVariants as parameters
-use Rattle.c_tree.specs.declared.syntax.Declaration.{Declaration}
 use Rattle.c_tree.specs.declared.syntax.Declaration.TheVariants as declaration
 use Rattle.c_reading.specs.Declarations as d
 use Rattle.c_reading.specs.declared.declarations.Opening.{Opening}
 use Rattle.c_reading.specs.declared.declarations.Opening.TheVariants as opening_
-use Rattle.c_reading.specs.Parsers.{name, name_by, name_if_any, name_if_any_by}
 use Rattle.c_tree.specs.declared.syntax.Start.{Start}
 use Rattle.c_tree.specs.declared.syntax.Start.TheVariants as start
 use Rattle.c_tree.specs.declared.syntax.Statement.{Statement}
 use Rattle.c_tree.specs.declared.syntax.Statement.TheVariants as tree_
 use Rattle.c_tree.specs.declared.syntax.External.{External}
 use Rattle.c_tree.specs.declared.syntax.External.TheVariants as external
-use Rattle.c_tree.specs.declared.syntax.Syntax.{Syntax}
 use Rattle.c_reading.specs.Statements as st
 use Rattle.c_parser.proofs.Machine as m
 use Rattle.c_parser.proofs.Machine.{State, operand, have, want, got, Under, Use, step, run, Outcome, Next, goes, moved, at_end, hole, first, spot, outer, op_of, takes, push, close_use, use_hole, is_block, inside, add, maybe_behind, start_behind, for_test, for_next, Home, Naming, Heading, home_nesting, conclude, header, declaring, either, is_sign}
-use Rattle.c_parser.proofs.StatComplete.{after_block}
-use Rattle.c_parser.proofs.Reached.{word_is}
-use Rattle.c_parser.proofs.Sim.{Stop, stop_takes, Sim, sim_then, sim_as, sim_weaker, Took, sim_eat, sim_wrong, same_run, sign_is, word_at_is, place_is, sim_expect, sim_more, Got, inner, outside, Reads, read_reads}
-use Rattle.c_parser.proofs.DeclSim.{is_no_sign, is_a_sign, use_step, sim_choice, expected_sim, Starts, declaration_sim, openings_sim, opened_by, header_end}
+use Rattle.c_parser.proofs.Sim.{Stop, Sim, sim_then, sim_as, sim_weaker, Took, sim_eat, same_run, sign_is, place_is, sim_expect, Got, inner, outside, read_reads}
+use Rattle.c_parser.proofs.DeclSim.{is_no_sign, is_a_sign, use_step, expected_sim, Starts, declaration_sim, openings_sim, opened_by, header_end}
 
 -- ---- blocks
 
@@ -109,12 +79,12 @@ module _ (T : ℕ → Bool) where
   paren_sim b u s2 n ts nn low does none = sim_then T (expect T sign.LeftParen n ts) _ (run T ts (m.expect sign.LeftParen (outer u) (operand [] u))) (λ x. operand [] u) (λ x k us. Took T n k) s2 (λ e k us. k ≡ behind (outer u) (about e))
       (expected_sim T sign.LeftParen (outer u) (operand [] u) n ts nn refl refl)
       (λ x k us g. sim_then T (r.read T b r.expr k us) _ (run T us (operand [] u)) (λ e. have e [] u) (Got T 0 (place_at us) (outside T [] u)) s2 (λ e k us. k ≡ behind (outer u) (about e))
-        ((read_reads T b).expr [] u k us low (g.nesting ∙ nn))
-        (λ e j vs ge. sim_then T (expect T sign.RightParen j vs) _ (run T vs (have e [] u)) (λ x. s2 e) (λ x i ws. Took T j i) s2 (λ e k us. k ≡ behind (outer u) (about e))
-          (sim_expect T (have e [] u) (s2 e) sign.RightParen j vs refl
-            (λ t ws q w. use_step T e u vs (subst (λ y. Stop y (op_of (sign_at vs)) e) (sym low) ge.stop) t ws q ∙ ap (λ y. close_use u e y) w ∙ does e ∙ ap (λ i. goes i (s2 e)) (sym ge.nesting))
-            (λ t ws q w. use_step T e u vs (subst (λ y. Stop y (op_of (sign_at vs)) e) (sym low) ge.stop) t ws q ∙ none e (sign_of_word t.word) w))
-          (λ x i ws h. (refl, h.nesting ∙ ge.nesting))))
+      ((read_reads T b).expr [] u k us low (g.nesting ∙ nn))
+      (λ e j vs ge. sim_then T (expect T sign.RightParen j vs) _ (run T vs (have e [] u)) (λ x. s2 e) (λ x i ws. Took T j i) s2 (λ e k us. k ≡ behind (outer u) (about e))
+      (sim_expect T (have e [] u) (s2 e) sign.RightParen j vs refl
+      (λ t ws q w. use_step T e u vs (subst (λ y. Stop y (op_of (sign_at vs)) e) (sym low) ge.stop) t ws q ∙ ap (λ y. close_use u e y) w ∙ does e ∙ ap (λ i. goes i (s2 e)) (sym ge.nesting))
+      (λ t ws q w. use_step T e u vs (subst (λ y. Stop y (op_of (sign_at vs)) e) (sym low) ge.stop) t ws q ∙ none e (sign_of_word t.word) w))
+      (λ x i ws h. (refl, h.nesting ∙ ge.nesting))))
 
   pub record Maybe (u : Use) (p : At) (x : Option Expr) (k : ℕ) (us : List Lexeme) : Type 0 where
     pub nesting : k ≡ maybe_behind (outer u) x
@@ -137,12 +107,12 @@ module _ (T : ℕ → Bool) where
           (λ x k us g. (refl, record { nesting = g.nesting ∙ nn; place = λ e l. absurd cc }))
       by_sign false is = sim_as T _ (run T ts s0) (run T ts (operand [] u)) a (Maybe u (place_at ts)) (no_ is)
           (sim_then T (r.read T b r.expr n ts) _ (run T ts (operand [] u)) (λ e. have e [] u) (Got T 0 (place_at ts) (outside T [] u)) a (Maybe u (place_at ts))
-            ((read_reads T b).expr [] u n ts low nn)
-            (λ e j vs ge. sim_then T (expect T close j vs) _ (run T vs (have e [] u)) (λ x. a (Some e)) (λ x i ws. Took T j i) a (Maybe u (place_at ts))
-              (sim_expect T (have e [] u) (a (Some e)) close j vs refl
-                (λ t ws q w. use_step T e u vs (subst (λ y. Stop y (op_of (sign_at vs)) e) (sym low) ge.stop) t ws q ∙ ap (λ y. close_use u e y) w ∙ does e ∙ ap (λ i. goes i (a (Some e))) (sym ge.nesting))
-                (λ t ws q w. use_step T e u vs (subst (λ y. Stop y (op_of (sign_at vs)) e) (sym low) ge.stop) t ws q ∙ none e (sign_of_word t.word) w))
-              (λ x i ws h. (refl, record { nesting = h.nesting ∙ ge.nesting; place = λ y l. subst (λ z. place_of z ≡ place_at ts) (some_inj e y l) ge.place }))))
+          ((read_reads T b).expr [] u n ts low nn)
+          (λ e j vs ge. sim_then T (expect T close j vs) _ (run T vs (have e [] u)) (λ x. a (Some e)) (λ x i ws. Took T j i) a (Maybe u (place_at ts))
+          (sim_expect T (have e [] u) (a (Some e)) close j vs refl
+          (λ t ws q w. use_step T e u vs (subst (λ y. Stop y (op_of (sign_at vs)) e) (sym low) ge.stop) t ws q ∙ ap (λ y. close_use u e y) w ∙ does e ∙ ap (λ i. goes i (a (Some e))) (sym ge.nesting))
+          (λ t ws q w. use_step T e u vs (subst (λ y. Stop y (op_of (sign_at vs)) e) (sym low) ge.stop) t ws q ∙ none e (sign_of_word t.word) w))
+          (λ x i ws h. (refl, record { nesting = h.nesting ∙ ge.nesting; place = λ y l. subst (λ z. place_of z ≡ place_at ts) (some_inj e y l) ge.place }))))
 
   -- from a state that takes the word or reads on
   either_yes : (close : Sign) (n : ℕ) (a b : State) (ts : List Lexeme) → same close sign.Other ≡ false → is_sign (a_sign close) close ≡ true → (t : Lexeme) (us : List Lexeme) → ts ≡ t ∷ us → sign_of_word t.word ≡ close → step (either close n a b) t ≡ Some (n, a)
@@ -266,12 +236,12 @@ module _ (T : ℕ → Bool) where
       by_decl false is = sim_as T _ (run T ts (m.for_first at us)) (run T ts (operand [] (m.start_ at us))) (λ x. for_test at x us) (λ x k vs. k ≡ start_behind (suc (inside us)) x)
           (same_run T (m.for_first at us) (operand [] (m.start_ at us)) ts refl (λ t r2 l. plain_first t at us (sign_of_word t.word) (ap q.begins_declaration (sign_is T ts t r2 (sign_at ts) l refl) ∙ is) (ap (λ y. same y sign.Semicolon) (sign_is T ts t r2 (sign_at ts) l refl) ∙ semi)))
           (sim_then T (r.read T b r.expr n ts) _ (run T ts (operand [] (m.start_ at us))) (λ e. have e [] (m.start_ at us)) (Got T 0 (place_at ts) (outside T [] (m.start_ at us))) (λ x. for_test at x us) (λ x k vs. k ≡ start_behind (suc (inside us)) x)
-            ((read_reads T b).expr [] (m.start_ at us) n ts refl nn)
-            (λ e j vs ge. sim_then T (expect T sign.Semicolon j vs) _ (run T vs (have e [] (m.start_ at us))) (λ x. for_test at (start.Value e) us) (λ x i ws. Took T j i) (λ x. for_test at x us) (λ x k vs. k ≡ start_behind (suc (inside us)) x)
-              (sim_expect T (have e [] (m.start_ at us)) (for_test at (start.Value e) us) sign.Semicolon j vs refl
-                (λ t ws l w. use_step T e (m.start_ at us) vs ge.stop t ws l ∙ ap (λ y. close_use (m.start_ at us) e y) w ∙ ap (λ i. goes i (for_test at (start.Value e) us)) (sym ge.nesting))
-                (λ t ws l w. use_step T e (m.start_ at us) vs ge.stop t ws l ∙ start_none at us e (sign_of_word t.word) w))
-              (λ x i ws h. (refl, h.nesting ∙ ge.nesting))))
+          ((read_reads T b).expr [] (m.start_ at us) n ts refl nn)
+          (λ e j vs ge. sim_then T (expect T sign.Semicolon j vs) _ (run T vs (have e [] (m.start_ at us))) (λ x. for_test at (start.Value e) us) (λ x i ws. Took T j i) (λ x. for_test at x us) (λ x k vs. k ≡ start_behind (suc (inside us)) x)
+          (sim_expect T (have e [] (m.start_ at us)) (for_test at (start.Value e) us) sign.Semicolon j vs refl
+          (λ t ws l w. use_step T e (m.start_ at us) vs ge.stop t ws l ∙ ap (λ y. close_use (m.start_ at us) e y) w ∙ ap (λ i. goes i (for_test at (start.Value e) us)) (sym ge.nesting))
+          (λ t ws l w. use_step T e (m.start_ at us) vs ge.stop t ws l ∙ start_none at us e (sign_of_word t.word) w))
+          (λ x i ws h. (refl, h.nesting ∙ ge.nesting))))
 
   start_sim : (b : ℕ) (at : At) (us : List Under) (n : ℕ) (ts : List Lexeme) → n ≡ suc (inside us) → (x : Sign) → sign_at ts ≡ x → Sim T (st.start_by T b x n ts) (run T ts (m.for_first at us)) (λ x. for_test at x us) (λ x k vs. k ≡ start_behind (suc (inside us)) x)
   start_sim b at us n ts nn sign.Semicolon is = sim_then T (eat T n ts) _ (run T ts (m.for_first at us)) (λ y. for_test at start.Absent us) (λ y k vs. Took T n k) (λ x. for_test at x us) (λ x k vs. k ≡ start_behind (suc (inside us)) x)
@@ -302,17 +272,17 @@ module _ (T : ℕ → Bool) where
     while_sim us n ts nn pl is = let at = place_at ts in sim_then T (eat T n ts) _ (run T ts (want us)) (λ x. m.expect sign.LeftParen (suc (inside us)) (operand [] (m.while_ at us))) (λ x k vs. Took T n k) (λ x. got x us) Nothing
         (sim_eat T (want us) (m.expect sign.LeftParen (suc (inside us)) (operand [] (m.while_ at us))) n ts refl (first_step us n ts sign.While (λ z. m.expect sign.LeftParen (suc (inside us)) (operand [] (m.while_ z us))) nn pl is (λ p w. refl)))
         (λ x k vs g. sim_then T (st.condition T (r.read T b) k vs) _ (run T vs (m.expect sign.LeftParen (suc (inside us)) (operand [] (m.while_ at us)))) (λ e. want (m.in_while at e ∷ us)) (λ e j ws. j ≡ behind (suc (inside us)) (about e)) (λ x. got x us) Nothing
-          (paren_sim b (m.while_ at us) (λ e. want (m.in_while at e ∷ us)) k vs (g.nesting ∙ nn) refl (λ e. refl) (while_none at us))
-          (λ e j ws ge. sim_then T (S.one j ws) _ (run T ws (want (m.in_while at e ∷ us))) (λ a. got a (m.in_while at e ∷ us)) (λ a i os. Took T j i) (λ x. got x us) Nothing
-            (S_reads.one (m.in_while at e ∷ us) j ws ge (λ t rest l. refl))
-            (λ a i os h. (same_got a (tree_.While at e a) (m.in_while at e ∷ us) us os (λ t. refl), tt))))
+        (paren_sim b (m.while_ at us) (λ e. want (m.in_while at e ∷ us)) k vs (g.nesting ∙ nn) refl (λ e. refl) (while_none at us))
+        (λ e j ws ge. sim_then T (S.one j ws) _ (run T ws (want (m.in_while at e ∷ us))) (λ a. got a (m.in_while at e ∷ us)) (λ a i os. Took T j i) (λ x. got x us) Nothing
+        (S_reads.one (m.in_while at e ∷ us) j ws ge (λ t rest l. refl))
+        (λ a i os h. (same_got a (tree_.While at e a) (m.in_while at e ∷ us) us os (λ t. refl), tt))))
 
     else_sim : (at : At) (e : Expr) (a : Statement) (us : List Under) (n : ℕ) (ts : List Lexeme) → n ≡ inside (m.in_if at e ∷ us) → (x : Sign) → sign_at ts ≡ x → Sim T (st.else_by T S x n ts) (run T ts (got a (m.in_if at e ∷ us))) (λ y. got (tree_.If at e a y) us) Nothing
     else_sim at e a us n ts nn sign.Else is = sim_then T (eat T n ts) _ (run T ts (got a (m.in_if at e ∷ us))) (λ x. want (m.in_else at e a ∷ us)) (λ x k vs. Took T n k) (λ y. got (tree_.If at e a y) us) Nothing
         (sim_eat T (got a (m.in_if at e ∷ us)) (want (m.in_else at e a ∷ us)) n ts refl (λ t rest l. ap (λ y. m.on y sign.Else (goes (inside (m.in_if at e ∷ us)) (want (m.in_else at e a ∷ us))) (m.settle t.at t.word (sign_of_word t.word) (tree_.If at e a None) us)) (sign_is T ts t rest sign.Else l is) ∙ ap (λ k. goes k (want (m.in_else at e a ∷ us))) (sym nn)))
         (λ x k vs g. sim_then T (S.one k vs) _ (run T vs (want (m.in_else at e a ∷ us))) (λ y. got y (m.in_else at e a ∷ us)) (λ y i os. Took T k i) (λ y. got (tree_.If at e a y) us) Nothing
-          (S_reads.one (m.in_else at e a ∷ us) k vs (g.nesting ∙ nn) (λ t rest l. refl))
-          (λ y i os h. (same_got y (tree_.If at e a (Some y)) (m.in_else at e a ∷ us) us os (λ t. refl), tt)))
+        (S_reads.one (m.in_else at e a ∷ us) k vs (g.nesting ∙ nn) (λ t rest l. refl))
+        (λ y i os h. (same_got y (tree_.If at e a (Some y)) (m.in_else at e a ∷ us) us os (λ t. refl), tt)))
     else_sim at e a us n ts nn x is = (same_run T (got a (m.in_if at e ∷ us)) (got (tree_.If at e a None) us) ts refl (λ t rest l. ap (λ c. cond c (goes (inside (m.in_if at e ∷ us)) (want (m.in_else at e a ∷ us))) (m.settle t.at t.word (sign_of_word t.word) (tree_.If at e a None) us)) (ap (λ y. same y sign.Else) (sign_is T ts t rest x l is))), tt)
 
     if_sim : (us : List Under) (n : ℕ) (ts : List Lexeme) → n ≡ suc (inside us) → Plain us ts → sign_at ts ≡ sign.If → Stat us n ts (st.if_statement T b S (place_at ts))
@@ -320,62 +290,62 @@ module _ (T : ℕ → Bool) where
     if_sim us n ts nn pl is = let at = place_at ts in sim_then T (eat T n ts) _ (run T ts (want us)) (λ x. m.expect sign.LeftParen (suc (inside us)) (operand [] (m.if_ at us))) (λ x k vs. Took T n k) (λ x. got x us) Nothing
         (sim_eat T (want us) (m.expect sign.LeftParen (suc (inside us)) (operand [] (m.if_ at us))) n ts refl (first_step us n ts sign.If (λ z. m.expect sign.LeftParen (suc (inside us)) (operand [] (m.if_ z us))) nn pl is (λ p w. refl)))
         (λ x k vs g. sim_then T (st.condition T (r.read T b) k vs) _ (run T vs (m.expect sign.LeftParen (suc (inside us)) (operand [] (m.if_ at us)))) (λ e. want (m.in_if at e ∷ us)) (λ e j ws. j ≡ behind (suc (inside us)) (about e)) (λ x. got x us) Nothing
-          (paren_sim b (m.if_ at us) (λ e. want (m.in_if at e ∷ us)) k vs (g.nesting ∙ nn) refl (λ e. refl) (if_none at us))
-          (λ e j ws ge. sim_then T (S.one j ws) _ (run T ws (want (m.in_if at e ∷ us))) (λ a. got a (m.in_if at e ∷ us)) (λ a i os. Took T j i) (λ x. got x us) Nothing
-            (S_reads.one (m.in_if at e ∷ us) j ws ge (λ t rest l. refl))
-            (λ a i os h. sim_then T (st.else_by T S (sign_at os) i os) _ (run T os (got a (m.in_if at e ∷ us))) (λ y. got (tree_.If at e a y) us) Nothing (λ x. got x us) Nothing
-              (else_sim at e a us i os (h.nesting ∙ ge) (sign_at os) refl)
-              (λ y l zs f. (refl, tt)))))
+        (paren_sim b (m.if_ at us) (λ e. want (m.in_if at e ∷ us)) k vs (g.nesting ∙ nn) refl (λ e. refl) (if_none at us))
+        (λ e j ws ge. sim_then T (S.one j ws) _ (run T ws (want (m.in_if at e ∷ us))) (λ a. got a (m.in_if at e ∷ us)) (λ a i os. Took T j i) (λ x. got x us) Nothing
+        (S_reads.one (m.in_if at e ∷ us) j ws ge (λ t rest l. refl))
+        (λ a i os h. sim_then T (st.else_by T S (sign_at os) i os) _ (run T os (got a (m.in_if at e ∷ us))) (λ y. got (tree_.If at e a y) us) Nothing (λ x. got x us) Nothing
+        (else_sim at e a us i os (h.nesting ∙ ge) (sign_at os) refl)
+        (λ y l zs f. (refl, tt)))))
 
     do_end_sim : (at : At) (a : Statement) (us : List Under) (n : ℕ) (ts : List Lexeme) → n ≡ suc (inside us) → Sim T (st.do_end T (r.read T b) n ts) (run T ts (got a (m.in_do at ∷ us))) (λ e. got (tree_.DoWhile at a e) us) Nothing
     unfolding st.do_end
     do_end_sim at a us n ts nn = sim_then T (expect T sign.While n ts) _ (run T ts (got a (m.in_do at ∷ us))) (λ x. m.expect sign.LeftParen (suc (inside us)) (operand [] (m.do_ at a us))) (λ x k vs. Took T n k) (λ e. got (tree_.DoWhile at a e) us) Nothing
         (sim_expect T (got a (m.in_do at ∷ us)) (m.expect sign.LeftParen (suc (inside us)) (operand [] (m.do_ at a us))) sign.While n ts refl
-          (λ t rest l w. ap (λ y. m.on y sign.While (goes (suc (inside us)) (m.expect sign.LeftParen (suc (inside us)) (operand [] (m.do_ at a us)))) None) w ∙ ap (λ k. goes k (m.expect sign.LeftParen (suc (inside us)) (operand [] (m.do_ at a us)))) (sym nn))
-          (λ t rest l w. ap (λ c. cond c (goes (suc (inside us)) (m.expect sign.LeftParen (suc (inside us)) (operand [] (m.do_ at a us)))) None) w))
+        (λ t rest l w. ap (λ y. m.on y sign.While (goes (suc (inside us)) (m.expect sign.LeftParen (suc (inside us)) (operand [] (m.do_ at a us)))) None) w ∙ ap (λ k. goes k (m.expect sign.LeftParen (suc (inside us)) (operand [] (m.do_ at a us)))) (sym nn))
+        (λ t rest l w. ap (λ c. cond c (goes (suc (inside us)) (m.expect sign.LeftParen (suc (inside us)) (operand [] (m.do_ at a us)))) None) w))
         (λ x k vs g. sim_then T (st.condition T (r.read T b) k vs) _ (run T vs (m.expect sign.LeftParen (suc (inside us)) (operand [] (m.do_ at a us)))) (λ e. m.expect sign.Semicolon (behind (suc (inside us)) (about e)) (got (tree_.DoWhile at a e) us)) (λ e j ws. j ≡ behind (suc (inside us)) (about e)) (λ e. got (tree_.DoWhile at a e) us) Nothing
-          (paren_sim b (m.do_ at a us) (λ e. m.expect sign.Semicolon (behind (suc (inside us)) (about e)) (got (tree_.DoWhile at a e) us)) k vs (g.nesting ∙ nn) refl (λ e. refl) (do_none at a us))
-          (λ e j ws ge. sim_then T (expect T sign.Semicolon j ws) _ (run T ws (m.expect sign.Semicolon (behind (suc (inside us)) (about e)) (got (tree_.DoWhile at a e) us))) (λ y. got (tree_.DoWhile at a e) us) (λ y i os. Took T j i) (λ e. got (tree_.DoWhile at a e) us) Nothing
-            (expected_sim T sign.Semicolon (behind (suc (inside us)) (about e)) (got (tree_.DoWhile at a e) us) j ws ge refl refl)
-            (λ y i os h. (refl, tt))))
+        (paren_sim b (m.do_ at a us) (λ e. m.expect sign.Semicolon (behind (suc (inside us)) (about e)) (got (tree_.DoWhile at a e) us)) k vs (g.nesting ∙ nn) refl (λ e. refl) (do_none at a us))
+        (λ e j ws ge. sim_then T (expect T sign.Semicolon j ws) _ (run T ws (m.expect sign.Semicolon (behind (suc (inside us)) (about e)) (got (tree_.DoWhile at a e) us))) (λ y. got (tree_.DoWhile at a e) us) (λ y i os. Took T j i) (λ e. got (tree_.DoWhile at a e) us) Nothing
+        (expected_sim T sign.Semicolon (behind (suc (inside us)) (about e)) (got (tree_.DoWhile at a e) us) j ws ge refl refl)
+        (λ y i os h. (refl, tt))))
 
     do_sim : (us : List Under) (n : ℕ) (ts : List Lexeme) → n ≡ suc (inside us) → Plain us ts → sign_at ts ≡ sign.Do → Stat us n ts (st.do_statement T b S (place_at ts))
     unfolding st.do_statement
     do_sim us n ts nn pl is = let at = place_at ts in sim_then T (eat T n ts) _ (run T ts (want us)) (λ x. want (m.in_do at ∷ us)) (λ x k vs. Took T n k) (λ x. got x us) Nothing
         (sim_eat T (want us) (want (m.in_do at ∷ us)) n ts refl (first_step us n ts sign.Do (λ z. want (m.in_do z ∷ us)) nn pl is (λ p w. refl)))
         (λ x k vs g. sim_then T (S.one k vs) _ (run T vs (want (m.in_do at ∷ us))) (λ a. got a (m.in_do at ∷ us)) (λ a i os. Took T k i) (λ x. got x us) Nothing
-          (S_reads.one (m.in_do at ∷ us) k vs (g.nesting ∙ nn) (λ t rest l. refl))
-          (λ a i os h. sim_then T (st.do_end T (r.read T b) i os) _ (run T os (got a (m.in_do at ∷ us))) (λ e. got (tree_.DoWhile at a e) us) Nothing (λ x. got x us) Nothing
-            (do_end_sim at a us i os (h.nesting ∙ g.nesting ∙ nn))
-            (λ e l zs f. (refl, tt))))
+        (S_reads.one (m.in_do at ∷ us) k vs (g.nesting ∙ nn) (λ t rest l. refl))
+        (λ a i os h. sim_then T (st.do_end T (r.read T b) i os) _ (run T os (got a (m.in_do at ∷ us))) (λ e. got (tree_.DoWhile at a e) us) Nothing (λ x. got x us) Nothing
+        (do_end_sim at a us i os (h.nesting ∙ g.nesting ∙ nn))
+        (λ e l zs f. (refl, tt))))
 
     header_sim : (at : At) (us : List Under) (n : ℕ) (ts : List Lexeme) → n ≡ suc (inside us) → Plain us ts → sign_at ts ≡ sign.For → at ≡ place_at ts → Sim T (st.for_header T b n ts) (run T ts (want us)) (λ x. want (m.in_for at x.0 x.1 x.2 ∷ us)) (λ x k vs. k ≡ inside (m.in_for at x.0 x.1 x.2 ∷ us))
     unfolding st.for_header st.start
     header_sim at us n ts nn pl is here = sim_then T (eat T n ts) _ (run T ts (want us)) (λ x. m.expect sign.LeftParen (suc (inside us)) (m.for_first at us)) (λ x k vs. Took T n k) (λ x. want (m.in_for at x.0 x.1 x.2 ∷ us)) (λ x k vs. k ≡ inside (m.in_for at x.0 x.1 x.2 ∷ us))
         (sim_eat T (want us) (m.expect sign.LeftParen (suc (inside us)) (m.for_first at us)) n ts refl (λ t rest l. first_step us n ts sign.For (λ z. m.expect sign.LeftParen (suc (inside us)) (m.for_first z us)) nn pl is (λ p w. refl) t rest l ∙ ap (λ z. goes n (m.expect sign.LeftParen (suc (inside us)) (m.for_first z us))) (sym here)))
         (λ x k vs g. sim_then T (expect T sign.LeftParen k vs) _ (run T vs (m.expect sign.LeftParen (suc (inside us)) (m.for_first at us))) (λ y. m.for_first at us) (λ y j ws. Took T k j) (λ x. want (m.in_for at x.0 x.1 x.2 ∷ us)) (λ x k vs. k ≡ inside (m.in_for at x.0 x.1 x.2 ∷ us))
-          (expected_sim T sign.LeftParen (suc (inside us)) (m.for_first at us) k vs (g.nesting ∙ nn) refl refl)
-          (λ y j ws h. sim_then T (st.start_by T b (sign_at ws) j ws) _ (run T ws (m.for_first at us)) (λ x. for_test at x us) (λ x k vs. k ≡ start_behind (suc (inside us)) x) (λ x. want (m.in_for at x.0 x.1 x.2 ∷ us)) (λ x k vs. k ≡ inside (m.in_for at x.0 x.1 x.2 ∷ us))
-            (start_sim b at us j ws (h.nesting ∙ g.nesting ∙ nn) (sign_at ws) refl)
-            (λ a i os ga. sim_then T (st.optional T (r.read T b) sign.Semicolon i os) _ (run T os (for_test at a us)) (λ t. for_next at a t us) (Maybe (m.test_ at a us) (place_at os)) (λ x. want (m.in_for at x.0 x.1 x.2 ∷ us)) (λ x k vs. k ≡ inside (m.in_for at x.0 x.1 x.2 ∷ us))
-              (optional_sim b (m.test_ at a us) sign.Semicolon (for_test at a us) (λ t. for_next at a t us) i os ga refl refl
-                (λ t rest l w. either_yes sign.Semicolon (start_behind (suc (inside us)) a) (for_next at a None us) (operand [] (m.test_ at a us)) os refl refl t rest l w ∙ ap (λ c. goes c (for_next at a None us)) (sym ga))
-                (λ w. either_no sign.Semicolon (start_behind (suc (inside us)) a) (for_next at a None us) (operand [] (m.test_ at a us)) os refl w)
-                (λ e. refl) (test_none at a us))
-              (λ t l zs gt. sim_then T (st.optional T (r.read T b) sign.RightParen l zs) _ (run T zs (for_next at a t us)) (λ y. want (m.in_for at a t y ∷ us)) (Maybe (m.next_ at a t us) (place_at zs)) (λ x. want (m.in_for at x.0 x.1 x.2 ∷ us)) (λ x k vs. k ≡ inside (m.in_for at x.0 x.1 x.2 ∷ us))
-                (optional_sim b (m.next_ at a t us) sign.RightParen (for_next at a t us) (λ y. want (m.in_for at a t y ∷ us)) l zs gt.nesting refl refl
-                  (λ v rest l2 w. either_yes sign.RightParen (maybe_behind (start_behind (suc (inside us)) a) t) (want (m.in_for at a t None ∷ us)) (operand [] (m.next_ at a t us)) zs refl refl v rest l2 w ∙ ap (λ c. goes c (want (m.in_for at a t None ∷ us))) (sym gt.nesting))
-                  (λ w. either_no sign.RightParen (maybe_behind (start_behind (suc (inside us)) a) t) (want (m.in_for at a t None ∷ us)) (operand [] (m.next_ at a t us)) zs refl w)
-                  (λ e. refl) (next_none at a t us))
-                (λ y f qs gy. (refl, gy.nesting))))))
+        (expected_sim T sign.LeftParen (suc (inside us)) (m.for_first at us) k vs (g.nesting ∙ nn) refl refl)
+        (λ y j ws h. sim_then T (st.start_by T b (sign_at ws) j ws) _ (run T ws (m.for_first at us)) (λ x. for_test at x us) (λ x k vs. k ≡ start_behind (suc (inside us)) x) (λ x. want (m.in_for at x.0 x.1 x.2 ∷ us)) (λ x k vs. k ≡ inside (m.in_for at x.0 x.1 x.2 ∷ us))
+        (start_sim b at us j ws (h.nesting ∙ g.nesting ∙ nn) (sign_at ws) refl)
+        (λ a i os ga. sim_then T (st.optional T (r.read T b) sign.Semicolon i os) _ (run T os (for_test at a us)) (λ t. for_next at a t us) (Maybe (m.test_ at a us) (place_at os)) (λ x. want (m.in_for at x.0 x.1 x.2 ∷ us)) (λ x k vs. k ≡ inside (m.in_for at x.0 x.1 x.2 ∷ us))
+        (optional_sim b (m.test_ at a us) sign.Semicolon (for_test at a us) (λ t. for_next at a t us) i os ga refl refl
+        (λ t rest l w. either_yes sign.Semicolon (start_behind (suc (inside us)) a) (for_next at a None us) (operand [] (m.test_ at a us)) os refl refl t rest l w ∙ ap (λ c. goes c (for_next at a None us)) (sym ga))
+        (λ w. either_no sign.Semicolon (start_behind (suc (inside us)) a) (for_next at a None us) (operand [] (m.test_ at a us)) os refl w)
+        (λ e. refl) (test_none at a us))
+        (λ t l zs gt. sim_then T (st.optional T (r.read T b) sign.RightParen l zs) _ (run T zs (for_next at a t us)) (λ y. want (m.in_for at a t y ∷ us)) (Maybe (m.next_ at a t us) (place_at zs)) (λ x. want (m.in_for at x.0 x.1 x.2 ∷ us)) (λ x k vs. k ≡ inside (m.in_for at x.0 x.1 x.2 ∷ us))
+        (optional_sim b (m.next_ at a t us) sign.RightParen (for_next at a t us) (λ y. want (m.in_for at a t y ∷ us)) l zs gt.nesting refl refl
+        (λ v rest l2 w. either_yes sign.RightParen (maybe_behind (start_behind (suc (inside us)) a) t) (want (m.in_for at a t None ∷ us)) (operand [] (m.next_ at a t us)) zs refl refl v rest l2 w ∙ ap (λ c. goes c (want (m.in_for at a t None ∷ us))) (sym gt.nesting))
+        (λ w. either_no sign.RightParen (maybe_behind (start_behind (suc (inside us)) a) t) (want (m.in_for at a t None ∷ us)) (operand [] (m.next_ at a t us)) zs refl w)
+        (λ e. refl) (next_none at a t us))
+        (λ y f qs gy. (refl, gy.nesting))))))
 
     for_sim : (us : List Under) (n : ℕ) (ts : List Lexeme) → n ≡ suc (inside us) → Plain us ts → sign_at ts ≡ sign.For → Stat us n ts (st.for_statement T b S (place_at ts))
     unfolding st.for_statement
     for_sim us n ts nn pl is = let at = place_at ts in sim_then T (st.for_header T b n ts) _ (run T ts (want us)) (λ x. want (m.in_for at x.0 x.1 x.2 ∷ us)) (λ x k vs. k ≡ inside (m.in_for at x.0 x.1 x.2 ∷ us)) (λ x. got x us) Nothing
         (header_sim at us n ts nn pl is refl)
         (λ x k vs g. sim_then T (S.one k vs) _ (run T vs (want (m.in_for at x.0 x.1 x.2 ∷ us))) (λ a. got a (m.in_for at x.0 x.1 x.2 ∷ us)) (λ a i os. Took T k i) (λ x. got x us) Nothing
-          (S_reads.one (m.in_for at x.0 x.1 x.2 ∷ us) k vs g (λ t rest l. refl))
-          (λ a i os h. (same_got a (tree_.For at x.0 x.1 x.2 a) (m.in_for at x.0 x.1 x.2 ∷ us) us os (λ t. refl), tt)))
+        (S_reads.one (m.in_for at x.0 x.1 x.2 ∷ us) k vs g (λ t rest l. refl))
+        (λ a i os h. (same_got a (tree_.For at x.0 x.1 x.2 a) (m.in_for at x.0 x.1 x.2 ∷ us) us os (λ t. refl), tt)))
 
     -- a block from its brace on
     block_sim : (c : Open_block) (s0 : State) (n : ℕ) (ts : List Lexeme) → suc n ≡ nest c → at_end s0 ≡ Err (Wrong 0)
@@ -385,16 +355,16 @@ module _ (T : ℕ → Bool) where
     unfolding st.block
     block_sim c s0 n ts nn ends yes_ no_ = sim_then T (and_then (expect T sign.LeftBrace (suc n) ts) (λ x. S.rest [])) _ (run T ts s0) (closed c) Nothing (closed c) (λ x k vs. Took T n k)
         (sim_then T (expect T sign.LeftBrace (suc n) ts) (λ x. S.rest []) (run T ts s0) (λ x. want (unders c [])) (λ x k vs. Took T (suc n) k) (closed c) Nothing
-          (sim_expect T s0 (want (unders c [])) sign.LeftBrace (suc n) ts ends yes_ no_)
-          (λ x k vs g. S_reads.rest c [] k vs (g.nesting ∙ nn)))
+        (sim_expect T s0 (want (unders c [])) sign.LeftBrace (suc n) ts ends yes_ no_)
+        (λ x k vs g. S_reads.rest c [] k vs (g.nesting ∙ nn)))
         (λ x k vs g. (refl, record { nesting = refl }))
 
     block_statement_sim : (us : List Under) (n : ℕ) (ts : List Lexeme) → n ≡ suc (inside us) → Plain us ts → sign_at ts ≡ sign.LeftBrace → Stat us n ts (st.block_statement T b S (place_at ts))
     unfolding st.block_statement
     block_statement_sim us n ts nn pl is = let at = place_at ts in sim_then T (st.block T S n ts) _ (run T ts (want us)) (λ ss. got (tree_.Block at ss) us) (λ x k vs. Took T n k) (λ x. got x us) Nothing
         (block_sim (of_block at us) (want us) n ts (ap suc nn) refl
-          (λ t rest l w. pl t rest l ∙ ap (λ y. m.on_statement t.at t.word y us) w ∙ ap (λ z. goes (suc (suc (inside us))) (want (m.in_block z [] ∷ us))) (place_is T ts t rest l) ∙ ap (λ j. goes (suc j) (want (m.in_block at [] ∷ us))) (sym nn))
-          (λ t rest l w. absurd (apart (sym w ∙ ap (λ y. same y sign.LeftBrace) (sign_is T ts t rest sign.LeftBrace l is)))))
+        (λ t rest l w. pl t rest l ∙ ap (λ y. m.on_statement t.at t.word y us) w ∙ ap (λ z. goes (suc (suc (inside us))) (want (m.in_block z [] ∷ us))) (place_is T ts t rest l) ∙ ap (λ j. goes (suc j) (want (m.in_block at [] ∷ us))) (sym nn))
+        (λ t rest l w. absurd (apart (sym w ∙ ap (λ y. same y sign.LeftBrace) (sign_is T ts t rest sign.LeftBrace l is)))))
         (λ ss k vs g. (refl, tt))
       where
         apart : false ≡ true → ⊥
@@ -405,51 +375,51 @@ module _ (T : ℕ → Bool) where
     switch_sim us n ts nn pl is = let at = place_at ts in sim_then T (eat T n ts) _ (run T ts (want us)) (λ x. m.expect sign.LeftParen (suc (inside us)) (operand [] (m.switch_ at us))) (λ x k vs. Took T n k) (λ x. got x us) Nothing
         (sim_eat T (want us) (m.expect sign.LeftParen (suc (inside us)) (operand [] (m.switch_ at us))) n ts refl (first_step us n ts sign.Switch (λ z. m.expect sign.LeftParen (suc (inside us)) (operand [] (m.switch_ z us))) nn pl is (λ p w. refl)))
         (λ x k vs g. sim_then T (st.condition T (r.read T b) k vs) _ (run T vs (m.expect sign.LeftParen (suc (inside us)) (operand [] (m.switch_ at us)))) (λ e. m.expect sign.LeftBrace (suc (behind (suc (inside us)) (about e))) (want (m.in_switch at e [] ∷ us))) (λ e j ws. j ≡ behind (suc (inside us)) (about e)) (λ x. got x us) Nothing
-          (paren_sim b (m.switch_ at us) (λ e. m.expect sign.LeftBrace (suc (behind (suc (inside us)) (about e))) (want (m.in_switch at e [] ∷ us))) k vs (g.nesting ∙ nn) refl (λ e. refl) (switch_none at us))
-          (λ e j ws ge. sim_then T (st.block T S j ws) _ (run T ws (m.expect sign.LeftBrace (suc (behind (suc (inside us)) (about e))) (want (m.in_switch at e [] ∷ us)))) (λ ss. got (tree_.Switch at e ss) us) (λ ss i os. Took T j i) (λ x. got x us) Nothing
-            (block_sim (of_switch at e us) (m.expect sign.LeftBrace (suc (behind (suc (inside us)) (about e))) (want (m.in_switch at e [] ∷ us))) j ws (ap suc ge) refl
-              (λ t rest l w. ap (λ c. cond c (goes (suc (behind (suc (inside us)) (about e))) (want (m.in_switch at e [] ∷ us))) None) (is_a_sign t.word sign.LeftBrace w refl refl) ∙ ap (λ i. goes (suc i) (want (m.in_switch at e [] ∷ us))) (sym ge))
-              (λ t rest l w. ap (λ c. cond c (goes (suc (behind (suc (inside us)) (about e))) (want (m.in_switch at e [] ∷ us))) None) (is_no_sign t.word sign.LeftBrace w)))
-            (λ ss i os h. (refl, tt))))
+        (paren_sim b (m.switch_ at us) (λ e. m.expect sign.LeftBrace (suc (behind (suc (inside us)) (about e))) (want (m.in_switch at e [] ∷ us))) k vs (g.nesting ∙ nn) refl (λ e. refl) (switch_none at us))
+        (λ e j ws ge. sim_then T (st.block T S j ws) _ (run T ws (m.expect sign.LeftBrace (suc (behind (suc (inside us)) (about e))) (want (m.in_switch at e [] ∷ us)))) (λ ss. got (tree_.Switch at e ss) us) (λ ss i os. Took T j i) (λ x. got x us) Nothing
+        (block_sim (of_switch at e us) (m.expect sign.LeftBrace (suc (behind (suc (inside us)) (about e))) (want (m.in_switch at e [] ∷ us))) j ws (ap suc ge) refl
+        (λ t rest l w. ap (λ c. cond c (goes (suc (behind (suc (inside us)) (about e))) (want (m.in_switch at e [] ∷ us))) None) (is_a_sign t.word sign.LeftBrace w refl refl) ∙ ap (λ i. goes (suc i) (want (m.in_switch at e [] ∷ us))) (sym ge))
+        (λ t rest l w. ap (λ c. cond c (goes (suc (behind (suc (inside us)) (about e))) (want (m.in_switch at e [] ∷ us))) None) (is_no_sign t.word sign.LeftBrace w)))
+        (λ ss i os h. (refl, tt))))
 
     label_sim : (at : At) (us : List Under) (n : ℕ) (ts : List Lexeme) → n ≡ suc (inside us) → Plain us ts → sign_at ts ≡ sign.Case → at ≡ place_at ts → Sim T (st.case_label T (r.read T b) n ts) (run T ts (want us)) (λ e. want (m.in_case at e ∷ us)) (λ e k vs. Took T n k)
     unfolding st.case_label
     label_sim at us n ts nn pl is here = sim_then T (eat T n ts) _ (run T ts (want us)) (λ x. operand [] (m.case_ at us)) (λ x k vs. Took T n k) (λ e. want (m.in_case at e ∷ us)) (λ e k vs. Took T n k)
         (sim_eat T (want us) (operand [] (m.case_ at us)) n ts refl (λ t rest l. first_step us n ts sign.Case (λ z. operand [] (m.case_ z us)) nn pl is (λ p w. refl) t rest l ∙ ap (λ z. goes n (operand [] (m.case_ z us))) (sym here)))
         (λ x k vs g. sim_then T (and_then (r.read T b r.conditional (suc k) vs) (λ x i os. Ok (x, k, os))) _ (run T vs (operand [] (m.case_ at us))) (λ e. have e [] (m.case_ at us)) (λ e j ws. (j ≡ k) × Stop 2 (op_of (sign_at ws)) e) (λ e. want (m.in_case at e ∷ us)) (λ e k vs. Took T n k)
-          (sim_then T (r.read T b r.conditional (suc k) vs) _ (run T vs (operand [] (m.case_ at us))) (λ e. have e [] (m.case_ at us)) (Got T 2 (place_at vs) (inner T [] (m.case_ at us))) (λ e. have e [] (m.case_ at us)) (λ e j ws. (j ≡ k) × Stop 2 (op_of (sign_at ws)) e)
-            ((read_reads T b).conditional [] (m.case_ at us) (suc k) vs (omega arith) (ap suc (g.nesting ∙ nn)))
-            (λ e j ws ge. (refl, (refl, ge.stop))))
-          (λ e j ws ge. sim_then T (expect T sign.Colon j ws) _ (run T ws (have e [] (m.case_ at us))) (λ y. want (m.in_case at e ∷ us)) (λ y i os. Took T j i) (λ e. want (m.in_case at e ∷ us)) (λ e k vs. Took T n k)
-            (sim_expect T (have e [] (m.case_ at us)) (want (m.in_case at e ∷ us)) sign.Colon j ws refl
-              (λ t rest l w. use_step T e (m.case_ at us) ws ge.1 t rest l ∙ ap (λ y. close_use (m.case_ at us) e y) w ∙ ap (λ i. goes i (want (m.in_case at e ∷ us))) (sym (ge.0 ∙ g.nesting ∙ nn)))
-              (λ t rest l w. use_step T e (m.case_ at us) ws ge.1 t rest l ∙ case_none at us e (sign_of_word t.word) w))
-            (λ y i os h. (refl, record { nesting = h.nesting ∙ ge.0 ∙ g.nesting }))))
+        (sim_then T (r.read T b r.conditional (suc k) vs) _ (run T vs (operand [] (m.case_ at us))) (λ e. have e [] (m.case_ at us)) (Got T 2 (place_at vs) (inner T [] (m.case_ at us))) (λ e. have e [] (m.case_ at us)) (λ e j ws. (j ≡ k) × Stop 2 (op_of (sign_at ws)) e)
+        ((read_reads T b).conditional [] (m.case_ at us) (suc k) vs (omega arith) (ap suc (g.nesting ∙ nn)))
+        (λ e j ws ge. (refl, (refl, ge.stop))))
+        (λ e j ws ge. sim_then T (expect T sign.Colon j ws) _ (run T ws (have e [] (m.case_ at us))) (λ y. want (m.in_case at e ∷ us)) (λ y i os. Took T j i) (λ e. want (m.in_case at e ∷ us)) (λ e k vs. Took T n k)
+        (sim_expect T (have e [] (m.case_ at us)) (want (m.in_case at e ∷ us)) sign.Colon j ws refl
+        (λ t rest l w. use_step T e (m.case_ at us) ws ge.1 t rest l ∙ ap (λ y. close_use (m.case_ at us) e y) w ∙ ap (λ i. goes i (want (m.in_case at e ∷ us))) (sym (ge.0 ∙ g.nesting ∙ nn)))
+        (λ t rest l w. use_step T e (m.case_ at us) ws ge.1 t rest l ∙ case_none at us e (sign_of_word t.word) w))
+        (λ y i os h. (refl, record { nesting = h.nesting ∙ ge.0 ∙ g.nesting }))))
 
     case_sim : (us : List Under) (n : ℕ) (ts : List Lexeme) → n ≡ suc (inside us) → Plain us ts → sign_at ts ≡ sign.Case → Stat us n ts (st.case_statement T b S (place_at ts))
     unfolding st.case_statement
     case_sim us n ts nn pl is = let at = place_at ts in sim_then T (st.case_label T (r.read T b) n ts) _ (run T ts (want us)) (λ e. want (m.in_case at e ∷ us)) (λ e k vs. Took T n k) (λ x. got x us) Nothing
         (label_sim at us n ts nn pl is refl)
         (λ e k vs g. sim_then T (S.one k vs) _ (run T vs (want (m.in_case at e ∷ us))) (λ a. got a (m.in_case at e ∷ us)) (λ a i os. Took T k i) (λ x. got x us) Nothing
-          (S_reads.one (m.in_case at e ∷ us) k vs (g.nesting ∙ nn) (λ t rest l. refl))
-          (λ a i os h. (same_got a (tree_.Case at e a) (m.in_case at e ∷ us) us os (λ t. refl), tt)))
+        (S_reads.one (m.in_case at e ∷ us) k vs (g.nesting ∙ nn) (λ t rest l. refl))
+        (λ a i os h. (same_got a (tree_.Case at e a) (m.in_case at e ∷ us) us os (λ t. refl), tt)))
 
     default_sim : (us : List Under) (n : ℕ) (ts : List Lexeme) → n ≡ suc (inside us) → Plain us ts → sign_at ts ≡ sign.Default → Stat us n ts (st.default_statement T b S (place_at ts))
     unfolding st.default_statement
     default_sim us n ts nn pl is = let at = place_at ts in sim_then T (eat T n ts) _ (run T ts (want us)) (λ x. m.expect sign.Colon (suc (inside us)) (want (m.in_default at ∷ us))) (λ x k vs. Took T n k) (λ x. got x us) Nothing
         (sim_eat T (want us) (m.expect sign.Colon (suc (inside us)) (want (m.in_default at ∷ us))) n ts refl (first_step us n ts sign.Default (λ z. m.expect sign.Colon (suc (inside us)) (want (m.in_default z ∷ us))) nn pl is (λ p w. refl)))
         (λ x k vs g. sim_then T (expect T sign.Colon k vs) _ (run T vs (m.expect sign.Colon (suc (inside us)) (want (m.in_default at ∷ us)))) (λ y. want (m.in_default at ∷ us)) (λ y j ws. Took T k j) (λ x. got x us) Nothing
-          (expected_sim T sign.Colon (suc (inside us)) (want (m.in_default at ∷ us)) k vs (g.nesting ∙ nn) refl refl)
-          (λ y j ws h. sim_then T (S.one j ws) _ (run T ws (want (m.in_default at ∷ us))) (λ a. got a (m.in_default at ∷ us)) (λ a i os. Took T j i) (λ x. got x us) Nothing
-            (S_reads.one (m.in_default at ∷ us) j ws (h.nesting ∙ g.nesting ∙ nn) (λ t rest l. refl))
-            (λ a i os f. (same_got a (tree_.Default at a) (m.in_default at ∷ us) us os (λ t. refl), tt))))
+        (expected_sim T sign.Colon (suc (inside us)) (want (m.in_default at ∷ us)) k vs (g.nesting ∙ nn) refl refl)
+        (λ y j ws h. sim_then T (S.one j ws) _ (run T ws (want (m.in_default at ∷ us))) (λ a. got a (m.in_default at ∷ us)) (λ a i os. Took T j i) (λ x. got x us) Nothing
+        (S_reads.one (m.in_default at ∷ us) j ws (h.nesting ∙ g.nesting ∙ nn) (λ t rest l. refl))
+        (λ a i os f. (same_got a (tree_.Default at a) (m.in_default at ∷ us) us os (λ t. refl), tt))))
 
     jump_sim : (us : List Under) (n : ℕ) (ts : List Lexeme) (x : Sign) (y : At → Statement) → n ≡ suc (inside us) → Plain us ts → sign_at ts ≡ x → ((p : At) (w : Word) → m.on_statement p w x us ≡ goes (suc (inside us)) (m.expect sign.Semicolon (suc (inside us)) (got (y p) us))) → Stat us n ts (eat T >> (expect T sign.Semicolon >> pure (y (place_at ts))))
     jump_sim us n ts x y nn pl is does = let at = place_at ts in sim_then T (eat T n ts) _ (run T ts (want us)) (λ z. m.expect sign.Semicolon (suc (inside us)) (got (y at) us)) (λ z k vs. Took T n k) (λ x. got x us) Nothing
         (sim_eat T (want us) (m.expect sign.Semicolon (suc (inside us)) (got (y at) us)) n ts refl (first_step us n ts x (λ z. m.expect sign.Semicolon (suc (inside us)) (got (y z) us)) nn pl is does))
         (λ z k vs g. sim_then T (expect T sign.Semicolon k vs) _ (run T vs (m.expect sign.Semicolon (suc (inside us)) (got (y at) us))) (λ z. got (y at) us) (λ z j ws. Took T k j) (λ x. got x us) Nothing
-          (expected_sim T sign.Semicolon (suc (inside us)) (got (y at) us) k vs (g.nesting ∙ nn) refl refl)
-          (λ z j ws h. (refl, tt)))
+        (expected_sim T sign.Semicolon (suc (inside us)) (got (y at) us) k vs (g.nesting ∙ nn) refl refl)
+        (λ z j ws h. (refl, tt)))
 
     return_sim : (us : List Under) (n : ℕ) (ts : List Lexeme) → n ≡ suc (inside us) → Plain us ts → sign_at ts ≡ sign.Return → Stat us n ts (st.return_statement T b S (place_at ts))
     unfolding st.return_statement
@@ -457,11 +427,11 @@ module _ (T : ℕ → Bool) where
         sim_then T (eat T n ts) _ (run T ts (want us)) (λ x. ahead) (λ x k vs. Took T n k) (λ x. got x us) Nothing
         (sim_eat T (want us) ahead n ts refl (first_step us n ts sign.Return (λ z. either sign.Semicolon (suc (inside us)) (got (tree_.Return z None) us) (operand [] (m.return_ z us))) nn pl is (λ p w. refl)))
         (λ x k vs g. sim_then T (st.optional T (r.read T b) sign.Semicolon k vs) _ (run T vs ahead) (λ e. got (tree_.Return at e) us) (Maybe (m.return_ at us) (place_at vs)) (λ x. got x us) Nothing
-          (optional_sim b (m.return_ at us) sign.Semicolon ahead (λ e. got (tree_.Return at e) us) k vs (g.nesting ∙ nn) refl refl
-            (λ t rest l w. either_yes sign.Semicolon (suc (inside us)) (got (tree_.Return at None) us) (operand [] (m.return_ at us)) vs refl refl t rest l w ∙ ap (λ c. goes c (got (tree_.Return at None) us)) (sym (g.nesting ∙ nn)))
-            (λ w. either_no sign.Semicolon (suc (inside us)) (got (tree_.Return at None) us) (operand [] (m.return_ at us)) vs refl w)
-            (λ e. refl) (return_none at us))
-          (λ e j ws h. (refl, tt)))
+        (optional_sim b (m.return_ at us) sign.Semicolon ahead (λ e. got (tree_.Return at e) us) k vs (g.nesting ∙ nn) refl refl
+        (λ t rest l w. either_yes sign.Semicolon (suc (inside us)) (got (tree_.Return at None) us) (operand [] (m.return_ at us)) vs refl refl t rest l w ∙ ap (λ c. goes c (got (tree_.Return at None) us)) (sym (g.nesting ∙ nn)))
+        (λ w. either_no sign.Semicolon (suc (inside us)) (got (tree_.Return at None) us) (operand [] (m.return_ at us)) vs refl w)
+        (λ e. refl) (return_none at us))
+        (λ e j ws h. (refl, tt)))
 
     abbrev evaluated : At → List Under → Option Expr → State
     evaluated at us None = got (tree_.Evaluate at None) us
@@ -471,9 +441,9 @@ module _ (T : ℕ → Bool) where
     unfolding st.expression_statement
     expression_sim us n ts nn pl op = let at = place_at ts in sim_then T (st.optional T (r.read T b) sign.Semicolon n ts) _ (run T ts (want us)) (evaluated at us) (Maybe (m.evaluate us) (place_at ts)) (λ x. got x us) Nothing
         (optional_sim b (m.evaluate us) sign.Semicolon (want us) (evaluated at us) n ts nn refl refl
-          (λ t rest l w. pl t rest l ∙ ap (λ y. m.on_statement t.at t.word y us) w ∙ ap (λ z. goes (suc (inside us)) (got (tree_.Evaluate z None) us)) (place_is T ts t rest l) ∙ ap (λ c. goes c (got (tree_.Evaluate at None) us)) (sym nn))
-          (λ w. same_run T (want us) (operand [] (m.evaluate us)) ts refl (λ t rest l. pl t rest l ∙ op w t (sign_is T ts t rest (sign_at ts) l refl)))
-          (λ e. refl) (evaluate_none us))
+        (λ t rest l w. pl t rest l ∙ ap (λ y. m.on_statement t.at t.word y us) w ∙ ap (λ z. goes (suc (inside us)) (got (tree_.Evaluate z None) us)) (place_is T ts t rest l) ∙ ap (λ c. goes c (got (tree_.Evaluate at None) us)) (sym nn))
+        (λ w. same_run T (want us) (operand [] (m.evaluate us)) ts refl (λ t rest l. pl t rest l ∙ op w t (sign_is T ts t rest (sign_at ts) l refl)))
+        (λ e. refl) (evaluate_none us))
         (λ e j ws h. (placed_at e ws h.place, tt))
       where
         placed_at : (e : Option Expr) (ws : List Lexeme) → ((x : Expr) → e ≡ Some x → place_of x ≡ place_at ts) → run T ws (evaluated (place_at ts) us e) ≡ run T ws (got (tree_.Evaluate (place_at ts) e) us)
@@ -500,6 +470,7 @@ module _ (T : ℕ → Bool) where
     by_statement us n ts nn pl x is = expression_sim us n ts nn pl (λ w t e. ap (λ y. m.on_statement t.at t.word y us) (e ∙ is))
 
     one_sim : (us : List Under) (n : ℕ) (ts : List Lexeme) → n ≡ inside us → Plain us ts → Sim T ((st.statements_step T b S).one n ts) (run T ts (want us)) (λ x. got x us) (λ x k vs. Took T n k)
+    unfolding st.statement_at
     one_sim us n ts nn pl = sim_then T (st.statement_by T b S (place_at ts) (sign_at ts) (suc n) ts) _ (run T ts (want us)) (λ x. got x us) Nothing (λ x. got x us) (λ x k vs. Took T n k)
         (by_statement us (suc n) ts (ap suc nn) pl (sign_at ts) refl)
         (λ x k vs g. (refl, record { nesting = refl }))
@@ -555,30 +526,16 @@ module _ (T : ℕ → Bool) where
             sim_weaker_state : Sim T (S.one n ts) (run T ts (want (unders c ss))) (λ x. got x (unders c ss)) (λ x k vs. Took T n k) → Sim T (S.one n ts) (run T ts (want (unders c ss))) (λ x. want (unders c (ss ++ x ∷ []))) (λ x k vs. Took T n k)
             sim_weaker_state h = restate (S.one n ts) (run T ts (want (unders c ss))) (λ x. got x (unders c ss)) (λ x. want (unders c (ss ++ x ∷ []))) (λ x k vs. Took T n k) (λ x vs. same_run T (got x (unders c ss)) (want (unders c (ss ++ x ∷ []))) vs refl (λ t rest l. settles c ss x t)) h
 
-    abbrev after_item : Open_block → List Statement → Option Statement → State
-    after_item c ss None = closed c ss
-    after_item c ss (Some x) = want (unders c (ss ++ x ∷ []))
-
-    next_item_sim : (c : Open_block) (ss : List Statement) (n : ℕ) (ts : List Lexeme) → n ≡ nest c → Sim T (st.next_item T b S n ts) (run T ts (want (unders c ss))) (after_item c ss) (λ x k vs. Took T n k)
-    unfolding st.next_item
-    next_item_sim c ss n ts nn = by_sign (same (sign_at ts) sign.RightBrace) refl
-      where
-        by_sign : (e : Bool) → same (sign_at ts) sign.RightBrace ≡ e → Sim T ((cond e (eat T >> pure None) (st.block_item T b S >>= (λ x. pure (Some x)))) n ts) (run T ts (want (unders c ss))) (after_item c ss) (λ x k vs. Took T n k)
-        by_sign true is = sim_then T (eat T n ts) _ (run T ts (want (unders c ss))) (λ x. closed c ss) (λ x k vs. Took T n k) (after_item c ss) (λ x k vs. Took T n k)
-            (sim_eat T (want (unders c ss)) (closed c ss) n ts refl (λ t rest l. item_step c ss t ∙ ap (λ x. m.on_item t.at t.word x (unders c ss)) (sign_is T ts t rest sign.RightBrace l (same_true the_type (search rules) (sign_at ts) sign.RightBrace is)) ∙ closes_block c ss t.at t.word ∙ ap (λ k. goes k (closed c ss)) (sym nn)))
-            (λ x k vs g. (refl, g))
-        by_sign false is = sim_then T (st.block_item T b S n ts) _ (run T ts (want (unders c ss))) (λ x. want (unders c (ss ++ x ∷ []))) (λ x k vs. Took T n k) (after_item c ss) (λ x k vs. Took T n k)
-            (block_item_sim c ss n ts nn is)
-            (λ x k vs g. (refl, g))
-
     rest_sim : (c : Open_block) (ss : List Statement) (n : ℕ) (ts : List Lexeme) → n ≡ nest c → Sim T ((st.statements_step T b S).rest ss n ts) (run T ts (want (unders c ss))) (closed c) Nothing
-    rest_sim c ss n ts nn = sim_then T (st.next_item T b S n ts) (st.continued T b S ss) (run T ts (want (unders c ss))) (after_item c ss) (λ x k vs. Took T n k) (closed c) Nothing
-        (next_item_sim c ss n ts nn)
-        onward
+    rest_sim c ss n ts nn = by_sign (same (sign_at ts) sign.RightBrace) refl
       where
-        onward : (o : Option Statement) (k : ℕ) (vs : List Lexeme) → Took T n k → Sim T (st.continued T b S ss o k vs) (run T vs (after_item c ss o)) (closed c) Nothing
-        onward None k vs g = (refl, tt)
-        onward (Some x) k vs g = S_reads.rest c (ss ++ x ∷ []) k vs (g.nesting ∙ nn)
+        by_sign : (e : Bool) → same (sign_at ts) sign.RightBrace ≡ e → Sim T ((cond e (eat T >> pure ss) (st.block_item T b S >>= (λ x. S.rest (ss ++ x ∷ [])))) n ts) (run T ts (want (unders c ss))) (closed c) Nothing
+        by_sign true is = sim_then T (eat T n ts) _ (run T ts (want (unders c ss))) (λ x. closed c ss) (λ x k vs. Took T n k) (closed c) Nothing
+            (sim_eat T (want (unders c ss)) (closed c ss) n ts refl (λ t rest l. item_step c ss t ∙ ap (λ x. m.on_item t.at t.word x (unders c ss)) (sign_is T ts t rest sign.RightBrace l (same_true the_type (search rules) (sign_at ts) sign.RightBrace is)) ∙ closes_block c ss t.at t.word ∙ ap (λ k. goes k (closed c ss)) (sym nn)))
+            (λ x k vs g. (refl, tt))
+        by_sign false is = sim_then T (st.block_item T b S n ts) _ (run T ts (want (unders c ss))) (λ x. want (unders c (ss ++ x ∷ []))) (λ x k vs. Took T n k) (closed c) Nothing
+            (block_item_sim c ss n ts nn is)
+            (λ x k vs g. S_reads.rest c (ss ++ x ∷ []) k vs (g.nesting ∙ nn))
 
     pub step_stats : Stat_reads (st.statements_step T b S)
     step_stats = record { one = one_sim; rest = rest_sim }
@@ -623,8 +580,8 @@ module _ (T : ℕ → Bool) where
       by_sign : (c : Bool) → same (sign_at ts) sign.LeftBrace ≡ c → Sim T ((cond c (st.block T (st.statements T b) >>= (λ ss. pure (external.Defined at g f qs ss))) (expect T sign.Semicolon >>= (λ x. pure (external.Declared (declaration.Function at g f qs))))) n ts) (run T ts (header (head at g f ps) qs)) (λ x. m.program (ps ++ x ∷ [])) (λ x k vs. Took T n k)
       by_sign true is = sim_then T (st.block T (st.statements T b) n ts) _ (run T ts (header (head at g f ps) qs)) (closed (of_body ps at g f qs)) (λ x k vs. Took T n k) (λ x. m.program (ps ++ x ∷ [])) (λ x k vs. Took T n k)
           (block_sim b (st.statements T b) (stats_read b) (of_body ps at g f qs) (header (head at g f ps) qs) n ts (ap suc nn) refl
-            (λ t rest l w. ap (λ y. m.on_header (head at g f ps) qs y) w ∙ ap (λ k. goes (suc k) (want (m.in_body ps at g f qs [] ∷ []))) (sym nn))
-            (λ t rest l w. absurd (no_brace (sign_of_word t.word) w (sym (sign_is T ts t rest (sign_at ts) l refl)) is)))
+          (λ t rest l w. ap (λ y. m.on_header (head at g f ps) qs y) w ∙ ap (λ k. goes (suc k) (want (m.in_body ps at g f qs [] ∷ []))) (sym nn))
+          (λ t rest l w. absurd (no_brace (sign_of_word t.word) w (sym (sign_is T ts t rest (sign_at ts) l refl)) is)))
           (λ ss k vs h. (refl, h))
       by_sign false is = sim_then T (expect T sign.Semicolon n ts) _ (run T ts (header (head at g f ps) qs)) (λ x. m.program (ps ++ external.Declared (declaration.Function at g f qs) ∷ [])) (λ x k vs. Took T n k) (λ x. m.program (ps ++ x ∷ [])) (λ x k vs. Took T n k)
           (header_end T (head at g f ps) qs n ts nn (inr is))
@@ -643,34 +600,14 @@ module _ (T : ℕ → Bool) where
       }))
       (λ o k vs g. sim_weaker T _ _ (λ x. m.program (ps ++ x ∷ [])) _ (λ x j ws. Took T n j) (λ x j ws h. record { nesting = h.nesting ∙ g.nesting }) (part_sim b ps o k vs (g.nesting ∙ nn)))
 
-  record Parts (us : List Lexeme) : Type 0 where
-    end_next : same (sign_at us) sign.End ≡ true
-
-  abbrev after_part : List External → Option External → State
-  after_part ps None = m.program ps
-  after_part ps (Some x) = m.program (ps ++ x ∷ [])
-
-  abbrev Part_next : Option External → ℕ → List Lexeme → Type 0
-  Part_next None k us = same (sign_at us) sign.End ≡ true
-  Part_next (Some x) k us = k ≡ 0
-
-  next_part_sim : (b : ℕ) (ps : List External) (n : ℕ) (ts : List Lexeme) → n ≡ 0 → Sim T (st.next_part T b n ts) (run T ts (m.program ps)) (after_part ps) Part_next
-  unfolding st.next_part st.external
-  next_part_sim b ps n ts nn = by_sign (same (sign_at ts) sign.End) refl
-    where
-      by_sign : (c : Bool) → same (sign_at ts) sign.End ≡ c → Sim T ((cond c (pure None) (st.external T b >>= (λ x. pure (Some x)))) n ts) (run T ts (m.program ps)) (after_part ps) Part_next
-      by_sign true is = (refl, is)
-      by_sign false is = sim_then T (st.external_by T b (place_at ts) (sign_at ts) n ts) _ (run T ts (m.program ps)) (λ x. m.program (ps ++ x ∷ [])) (λ x k vs. Took T n k) (after_part ps) Part_next
-          (external_sim b ps n ts nn is (sign_at ts) refl)
-          (λ x k vs g. (refl, g.nesting ∙ nn))
-
   pub parts_sim : (b : ℕ) (ps : List External) (n : ℕ) (ts : List Lexeme) → n ≡ 0 → Sim T (st.parts T b ps n ts) (run T ts (m.program ps)) (λ xs. m.program xs) (λ xs k us. same (sign_at us) sign.End ≡ true)
-  unfolding st.parts
+  unfolding st.parts st.external
   parts_sim zero ps n ts nn = tt
-  parts_sim (suc b) ps n ts nn = sim_then T (st.next_part T b n ts) (st.joined T ps (st.parts T b)) (run T ts (m.program ps)) (after_part ps) Part_next (λ xs. m.program xs) (λ xs k us. same (sign_at us) sign.End ≡ true)
-      (next_part_sim b ps n ts nn)
-      (λ o k vs g. onward o k vs g (λ x e. parts_sim b (ps ++ x ∷ []) k vs e))
+  parts_sim (suc b) ps n ts nn = by_sign (λ x k vs e. parts_sim b (ps ++ x ∷ []) k vs e) (same (sign_at ts) sign.End) refl
     where
-      onward : (o : Option External) (k : ℕ) (vs : List Lexeme) → Part_next o k vs → ((x : External) → k ≡ 0 → Sim T (st.parts T b (ps ++ x ∷ []) k vs) (run T vs (m.program (ps ++ x ∷ []))) (λ xs. m.program xs) (λ xs k us. same (sign_at us) sign.End ≡ true)) → Sim T (st.joined T ps (st.parts T b) o k vs) (run T vs (after_part ps o)) (λ xs. m.program xs) (λ xs k us. same (sign_at us) sign.End ≡ true)
-      onward None k vs g h = (refl, g)
-      onward (Some x) k vs g h = h x g
+      by_sign : ((x : External) (k : ℕ) (vs : List Lexeme) → k ≡ 0 → Sim T (st.parts T b (ps ++ x ∷ []) k vs) (run T vs (m.program (ps ++ x ∷ []))) (λ xs. m.program xs) (λ xs k us. same (sign_at us) sign.End ≡ true))
+          → (c : Bool) → same (sign_at ts) sign.End ≡ c → Sim T ((cond c (pure ps) (st.external T b >>= (λ x. st.parts T b (ps ++ x ∷ [])))) n ts) (run T ts (m.program ps)) (λ xs. m.program xs) (λ xs k us. same (sign_at us) sign.End ≡ true)
+      by_sign more_ true is = (refl, is)
+      by_sign more_ false is = sim_then T (st.external_by T b (place_at ts) (sign_at ts) n ts) _ (run T ts (m.program ps)) (λ x. m.program (ps ++ x ∷ [])) (λ x k vs. Took T n k) (λ xs. m.program xs) (λ xs k us. same (sign_at us) sign.End ≡ true)
+          (external_sim b ps n ts nn is (sign_at ts) refl)
+          (λ x k vs g. more_ x k vs (g.nesting ∙ nn))

@@ -1,20 +1,14 @@
 -- Each step of the machine keeps that the words read so far are those of the parts that it holds.
 use denote.Enum.Bare.{same_true}
 use Rattle.c_grammar.specs.contracts.sign.Sign.{the_type}
-use Rattle.std.proofs.Common.{rules, ◌≡◌, ℕ, ℤ, zero, suc, ◌+◌, ◌<◌, ◌≤◌, Bool, true, false, cond, nat_le, ◌==◌, ◌&&◌, List, [], ◌∷◌, ◌++◌, length, map, Option, Some, None, Ok, Err, refl, sym, ap, subst, ◌∙◌, append_assoc, arith}
-use Rattle.std.proofs.lemmas.Bool.{and_parts, leb-true, le-leb, leb-false, and_from}
-use Rattle.std.proofs.lemmas.Bool.Decides.{nat_tests}
+use Rattle.std.proofs.Common.{rules, ◌≡◌, ℕ, suc, ◌≤◌, true, false, nat_le, ◌&&◌, List, [], ◌∷◌, ◌++◌, map, Option, Some, None, refl, sym, ap, subst, ◌∙◌, arith}
+use Rattle.std.proofs.lemmas.Bool.{and_parts, leb-true, le-leb, and_from}
 use Rattle.std.proofs.lemmas.List.{append-nil}
 use Rattle.c_tree.specs.declared.token.At.{At}
 use Rattle.c_tree.specs.declared.syntax.TypeWords.{TypeWords}
-use Rattle.c_tree.specs.declared.syntax.TypeWords.TheVariants as words
 use Rattle.c_tree.specs.declared.syntax.Expr.{Expr}
-use Rattle.c_tree.specs.declared.syntax.Expr.TheVariants as tree
-use Rattle.c_tree.specs.declared.syntax.UnaryOperator.TheVariants as unary_
-use Rattle.c_tree.specs.declared.syntax.StepOperator.TheVariants as step_
 use Rattle.c_tree.specs.declared.syntax.Size.{Size}
 use Rattle.c_tree.specs.declared.syntax.Size.TheVariants as size
-use Rattle.c_tree.specs.declared.syntax.Initialiser.{Initialiser}
 use Rattle.c_tree.specs.declared.syntax.Initialiser.TheVariants as initialiser
 use Rattle.c_tree.specs.declared.syntax.Item.{Item}
 use Rattle.c_tree.specs.declared.syntax.Return.{Return}
@@ -22,44 +16,33 @@ use Rattle.c_tree.specs.declared.syntax.Return.TheVariants as gives
 use Rattle.c_tree.specs.declared.syntax.Parameter.{Parameter}
 use Rattle.c_tree.specs.declared.syntax.Parameters.{Parameters}
 use Rattle.c_tree.specs.declared.syntax.Parameters.TheVariants as parameters
-use Rattle.c_tree.specs.declared.syntax.Declaration.{Declaration}
 use Rattle.c_tree.specs.declared.syntax.Declaration.TheVariants as declaration
 use Rattle.c_grammar.specs.declared.sign.Sign.{Sign}
 use Rattle.c_grammar.specs.declared.sign.Sign.TheVariants as sign
 use Rattle.c_grammar.specs.Words.{Word, a_name, a_number, a_character, a_sign, sign_of_word, Lexeme}
-use Rattle.c_grammar.specs.Operators.{precedence, binary_sign, assign_sign, unary_sign, step_sign, type_signs}
-use Rattle.c_grammar.specs.Phrases as m2
-use Rattle.c_grammar.specs.Phrases.{begins_at, name, some, Leaf, leaf, Said, Part, sub, stands, is_at, same_place, entry, behind, leaves_of, leaves_at, all_fit, open_, expr, item, piece, commas, node, phrase, each, the_sign, operator}
-use Rattle.c_grammar.specs.Grammar.{sized, initialised, last_comma, declarator, maybe_name, assign, signs, about, type, value, maybe, started, condition, constant, statement_part, braces, block, declared, statement, about_statement, returned, called, listed, parameter, part, program}
+use Rattle.c_grammar.specs.Phrases.{begins_at, some, Leaf, leaf, Said, Part, stands, entry, behind, leaves_of, leaves_at, all_fit, open_, item, piece, commas, each, the_sign}
+use Rattle.c_grammar.specs.Grammar.{sized, maybe_name, about, type, maybe, started, condition, statement_part, declared, about_statement, returned, listed, parameter, part}
 use Rattle.c_tree.specs.declared.syntax.Start.{Start}
 use Rattle.c_tree.specs.declared.syntax.Start.TheVariants as start
 use Rattle.c_tree.specs.declared.syntax.Statement.{Statement}
 use Rattle.c_tree.specs.declared.syntax.Statement.TheVariants as tree_
-use Rattle.c_tree.specs.declared.syntax.Statement.TheOpen as s
 use Rattle.c_tree.specs.declared.syntax.External.{External}
 use Rattle.c_tree.specs.declared.syntax.External.TheVariants as external
-use Rattle.c_tree.specs.declared.syntax.Syntax.{Syntax}
-use Rattle.c_grammar.specs.Spelling.{Stands}
-use Rattle.c_reading.specs.Parsers.{Wrong, Deep, same}
-use Rattle.c_parser.proofs.Asked.{place_of, type_of, joined}
+use Rattle.c_reading.specs.Parsers.{same}
+use Rattle.c_parser.proofs.Asked.{type_of, joined}
 use Rattle.c_parser.proofs.Machine as m
 use Rattle.c_parser.proofs.Machine.{Frame, State, operand, have, named, opened, casting, want, got, Use, Under, Home, Naming, Heading, step, Next, goes, hole, opens, entered, spot, first, outer, use_hole, Op, op_of, own, left, is_op, takes, push, fill, shut, offer, close_use, close_block, is_block, inside, add, maybe_behind, start_behind, for_test, for_next, home_nesting, conclude, either, expect, item_of, item_end, value_after}
-use Rattle.c_parser.proofs.Trees.{at_of, said_name, said_element, said_call, said_number, said_character, said_paren, said_after, told_block, told_declared, told_evaluate, told_if, told_if_else, told_while, told_dowhile, told_for, told_switch, told_case, told_default, told_break, told_continue, told_return}
+use Rattle.c_parser.proofs.Trees.{told_block, told_evaluate, told_if, told_if_else, told_while, told_for, told_switch, told_case, told_default, told_break, told_continue, told_return}
 use Rattle.c_parser.proofs.Runs.{lex}
-use Rattle.c_parser.proofs.ExprRuns.{prec_high}
-use Rattle.c_parser.proofs.DeclComplete.{joined_other}
-use Rattle.c_parser.proofs.Fill.{trail_last, trail_snoc, fit_append, at_self, same_self, lead_first, hole_low, stands_it, text_have, Ok_have, filled_text, filled_ok}
-use Rattle.c_parser.proofs.Text.{trail, argument, object, a_parameter, items, tops, text_unders, ok_items, ok_unders, text_home, ok_home, text_type, text_naming, ok_naming, text_heading, text_use, ok_use, place, begun, text_frames, ok_frames, low, lead, ending}
-
+use Rattle.c_parser.proofs.Fill.{trail_last, fit_append, same_self, stands_it}
+use Rattle.c_parser.proofs.Text.{trail, a_parameter, items, tops, text_unders, ok_items, ok_unders, text_home, ok_home, text_naming, text_heading, text_use}
 use denote.Enum.Bare.{same_true}
 use Rattle.c_grammar.specs.contracts.sign.Sign.{the_type}
 use Rattle.std.proofs.Common.{rules}
-use Rattle.c_grammar.specs.Operators.{binary_sign}
-use Rattle.c_parser.proofs.ExprRuns.{prec_low, entry_open}
-use Rattle.c_parser.proofs.Fill.{trail_leaves}
+use Rattle.c_parser.proofs.ExprRuns.{entry_open}
 use Rattle.c_parser.proofs.Text.{begun_under}
-use Rattle.c_parser.proofs.Reached.{Taken, Pre, pre_as, pre_more, word_is, joined_sign, type_sign, type_no_other, type_snoc, type_at_snoc, type_then, type_at_then, returned_then, trail_pieces, comma_pieces, each_snoc, each_items, tops_snoc, tops_fit, items_snoc, items_fit, Stat_text, signed, text_header, Reached, Stepped}
-use Rattle.c_parser.proofs.Steps.{hole_max, lit, lit_ok, comma_trail, comma_trail_fit, by_sign, sized_then, started_then, maybe_then, test_reached, add_reached, conclude_reached, item_end_reached, declared_entry, for_parts, stepped_on, stepped_if, none_at, some_at, operand_reached, opened_reached, casting_reached, ended_reached, head_fit, item_end_step, offer_reached, named_reached}
+use Rattle.c_parser.proofs.Reached.{Taken, Pre, pre_as, pre_more, word_is, joined_sign, type_sign, type_no_other, type_at_snoc, type_at_then, returned_then, trail_pieces, comma_pieces, each_items, tops_snoc, tops_fit, Stat_text, signed, text_header, Reached, Stepped}
+use Rattle.c_parser.proofs.Steps.{comma_trail, comma_trail_fit, by_sign, test_reached, add_reached, conclude_reached, stepped_on, stepped_if, none_at, some_at, operand_reached, opened_reached, casting_reached, ended_reached, head_fit, item_end_step, offer_reached, named_reached}
 
 for_filled : (b : Start) (x y : Option Expr) (a : Said) (n : ℕ) (r : List Leaf) → leaves_of (started b ++ (maybe x ++ the_sign sign.Semicolon ∷ (maybe y ++ the_sign sign.RightParen ∷ statement_part a ∷ []))) n r
     ≡ leaves_of (started b ++ (maybe x ++ the_sign sign.Semicolon ∷ (maybe y ++ the_sign sign.RightParen ∷ []))) n (a.leaves (suc (maybe_behind (maybe_behind (start_behind n b) x) y)) r)
@@ -174,10 +157,16 @@ module _ (xs : Taken) (t : Lexeme) where
 
   pub close_reached : (us : List Under) → sign_of_word t.word ≡ sign.RightBrace → Pre xs (text_unders us) → ok_unders us → Stepped xs t (close_block us)
   close_reached [] w p ok = tt
-  close_reached (m.in_block at ss ∷ us) w p ok = (none_at xs t _ (Stat_text (tree_.Block at ss) us) sign.RightBrace _ w refl p (λ r. ap (λ (s : Said). text_unders us (s.leaves (suc (inside us)) r)) (told_block at ss) ∙ ap (λ l. text_unders us (leaf (a_sign sign.LeftBrace) (Some at) (suc (suc (inside us))) ∷ l)) (each_items about_statement ss (the_sign sign.RightBrace ∷ []) (suc (suc (inside us))) r)), ok.1,
-      ap (λ (s : Said). stands 2 s) (told_block at ss) ∙ and_from _ _ (same_self at) (and_from _ _ (fit_append (items ss) (the_sign sign.RightBrace ∷ []) ok.0 refl) refl))
-  close_reached (m.in_switch at e ss ∷ us) w p ok = (none_at xs t _ (Stat_text (tree_.Switch at e ss) us) sign.RightBrace _ w refl p (λ r. ap (λ (s : Said). text_unders us (s.leaves (suc (inside us)) r)) (told_switch at e ss) ∙ ap (λ l. text_unders us (leaves_at at (the_sign sign.Switch ∷ condition e []) (suc (inside us)) (leaf (a_sign sign.LeftBrace) None (suc (behind (suc (inside us)) (about e))) ∷ l))) (each_items about_statement ss (the_sign sign.RightBrace ∷ []) (suc (behind (suc (inside us)) (about e))) r)), ok.2,
-      ap (λ (s : Said). stands 2 s) (told_switch at e ss) ∙ and_from _ _ (and_parts _ _ ok.0).0 (and_from _ _ (fit_append (items ss) (the_sign sign.RightBrace ∷ []) ok.1 refl) refl))
+  close_reached (m.in_block at ss ∷ us) w p ok = (
+    none_at xs t _ (Stat_text (tree_.Block at ss) us) sign.RightBrace _ w refl p (λ r. ap (λ (s : Said). text_unders us (s.leaves (suc (inside us)) r)) (told_block at ss) ∙ ap (λ l. text_unders us (leaf (a_sign sign.LeftBrace) (Some at) (suc (suc (inside us))) ∷ l)) (each_items about_statement ss (the_sign sign.RightBrace ∷ []) (suc (suc (inside us))) r)),
+    ok.1,
+    ap (λ (s : Said). stands 2 s) (told_block at ss) ∙ and_from _ _ (same_self at) (and_from _ _ (fit_append (items ss) (the_sign sign.RightBrace ∷ []) ok.0 refl) refl),
+  )
+  close_reached (m.in_switch at e ss ∷ us) w p ok = (
+    none_at xs t _ (Stat_text (tree_.Switch at e ss) us) sign.RightBrace _ w refl p (λ r. ap (λ (s : Said). text_unders us (s.leaves (suc (inside us)) r)) (told_switch at e ss) ∙ ap (λ l. text_unders us (leaves_at at (the_sign sign.Switch ∷ condition e []) (suc (inside us)) (leaf (a_sign sign.LeftBrace) None (suc (behind (suc (inside us)) (about e))) ∷ l))) (each_items about_statement ss (the_sign sign.RightBrace ∷ []) (suc (behind (suc (inside us)) (about e))) r)),
+    ok.2,
+    ap (λ (s : Said). stands 2 s) (told_switch at e ss) ∙ and_from _ _ (and_parts _ _ ok.0).0 (and_from _ _ (fit_append (items ss) (the_sign sign.RightBrace ∷ []) ok.1 refl) refl),
+  )
   close_reached (m.in_body ps at g n qs ss ∷ us) w p ok = (none_at xs t _ (λ r. leaves_of (tops (ps ++ external.Defined at g n qs ss ∷ [])) 0 r) sign.RightBrace _ w refl p (λ r. tops_snoc ps (external.Defined at g n qs ss) r ∙ ap (λ l. leaves_of (tops ps) 0 l) (defined_text at g n qs ss r)), tops_fit ps (external.Defined at g n qs ss) ok.0 (defined_fit at g n qs ss ok.1 ok.2))
   close_reached (_ ∷ us) w p ok = tt
 
@@ -218,7 +207,7 @@ module _ (xs : Taken) (t : Lexeme) where
   settled (m.in_if at e ∷ us) x s w ok f = stepped_on xs t s sign.Else _ _
       (λ h. (none_at xs t _ (text_unders (m.in_else at e x ∷ us)) sign.Else _ (w ∙ h) refl f.text (λ r. refl), (and_from _ _ (and_parts _ _ ok.0).0 (and_from _ _ (stands_it 2 (about_statement x) (omega (arith, f.level, ap before_word h)) f.fits) refl), ok.1)))
       (λ h. let g = fill_if xs at e us x ok.0 (record { text = f.text; level = omega (arith, f.level, low_word s); fits = f.fits }) in
-        settled us (tree_.If at e x None) s w ok.1 (record { text = g.text; level = omega (arith, g.level, no_else s h); fits = g.fits }))
+      settled us (tree_.If at e x None) s w ok.1 (record { text = g.text; level = omega (arith, g.level, no_else s h); fits = g.fits }))
   settled (m.in_else at e a ∷ us) x s w ok f = settled us (tree_.If at e a (Some x)) s w ok.1 (fill_else xs at e a us x (before_word s) (low_word s) ok.0 f)
   settled (m.in_while at e ∷ us) x s w ok f = settled us (tree_.While at e x) s w ok.1 (fill_while xs at e us x (before_word s) (low_word s) ok.0 f)
   settled (m.in_for at b y n ∷ us) x s w ok f = settled us (tree_.For at b y n x) s w ok.1 (fill_for xs at b y n us x (before_word s) (low_word s) ok.0 f)

@@ -1,9 +1,8 @@
 -- A step of the machine over an expression or a declaration keeps what the words read so far are.
 use denote.Enum.Bare.{same_true}
 use Rattle.c_grammar.specs.contracts.sign.Sign.{the_type}
-use Rattle.std.proofs.Common.{rules, ◌≡◌, ℕ, ℤ, zero, suc, ◌+◌, ◌<◌, ◌≤◌, Bool, true, false, cond, nat_le, ◌==◌, ◌&&◌, List, [], ◌∷◌, ◌++◌, length, map, Option, Some, None, Ok, Err, refl, sym, ap, subst, ◌∙◌, append_assoc, arith}
-use Rattle.std.proofs.lemmas.Bool.{and_parts, leb-true, le-leb, leb-false, and_from}
-use Rattle.std.proofs.lemmas.Bool.Decides.{nat_tests}
+use Rattle.std.proofs.Common.{rules, ◌≡◌, ℕ, suc, ◌+◌, ◌≤◌, Bool, true, false, cond, nat_le, ◌&&◌, List, [], ◌∷◌, ◌++◌, map, Option, Some, None, refl, sym, ap, subst, ◌∙◌, arith}
+use Rattle.std.proofs.lemmas.Bool.{and_parts, leb-true, and_from}
 use Rattle.std.proofs.lemmas.List.{append-nil}
 use Rattle.c_tree.specs.declared.token.At.{At}
 use Rattle.c_tree.specs.declared.syntax.TypeWords.{TypeWords}
@@ -17,48 +16,35 @@ use Rattle.c_tree.specs.declared.syntax.Size.TheVariants as size
 use Rattle.c_tree.specs.declared.syntax.Initialiser.{Initialiser}
 use Rattle.c_tree.specs.declared.syntax.Initialiser.TheVariants as initialiser
 use Rattle.c_tree.specs.declared.syntax.Item.{Item}
-use Rattle.c_tree.specs.declared.syntax.Return.{Return}
-use Rattle.c_tree.specs.declared.syntax.Return.TheVariants as gives
-use Rattle.c_tree.specs.declared.syntax.Parameter.{Parameter}
-use Rattle.c_tree.specs.declared.syntax.Parameters.{Parameters}
-use Rattle.c_tree.specs.declared.syntax.Parameters.TheVariants as parameters
 use Rattle.c_tree.specs.declared.syntax.Declaration.{Declaration}
 use Rattle.c_tree.specs.declared.syntax.Declaration.TheVariants as declaration
 use Rattle.c_grammar.specs.declared.sign.Sign.{Sign}
 use Rattle.c_grammar.specs.declared.sign.Sign.TheVariants as sign
 use Rattle.c_grammar.specs.Words.{Word, a_name, a_number, a_character, a_sign, sign_of_word, Lexeme}
-use Rattle.c_grammar.specs.Operators.{precedence, binary_sign, assign_sign, unary_sign, step_sign, type_signs}
-use Rattle.c_grammar.specs.Phrases as m2
-use Rattle.c_grammar.specs.Phrases.{begins_at, name, some, Leaf, leaf, Said, Part, sub, stands, is_at, same_place, entry, behind, leaves_of, leaves_at, all_fit, open_, expr, item, piece, commas, node, phrase, each, the_sign, operator}
-use Rattle.c_grammar.specs.Grammar.{sized, initialised, last_comma, declarator, maybe_name, assign, signs, about, type, value, maybe, started, condition, constant, statement_part, braces, block, declared, statement, about_statement, returned, called, listed, parameter, part, program}
+use Rattle.c_grammar.specs.Operators.{precedence, binary_sign, assign_sign, step_sign}
+use Rattle.c_grammar.specs.Phrases.{begins_at, some, Leaf, leaf, Said, Part, stands, entry, behind, leaves_of, leaves_at, all_fit, open_, piece, commas, the_sign, operator}
+use Rattle.c_grammar.specs.Grammar.{sized, initialised, declarator, assign, about, type, maybe, started, condition, declared, about_statement, returned, listed}
 use Rattle.c_tree.specs.declared.syntax.Start.{Start}
 use Rattle.c_tree.specs.declared.syntax.Start.TheVariants as start
 use Rattle.c_tree.specs.declared.syntax.Statement.{Statement}
 use Rattle.c_tree.specs.declared.syntax.Statement.TheVariants as tree_
-use Rattle.c_tree.specs.declared.syntax.Statement.TheOpen as s
-use Rattle.c_tree.specs.declared.syntax.External.{External}
 use Rattle.c_tree.specs.declared.syntax.External.TheVariants as external
-use Rattle.c_tree.specs.declared.syntax.Syntax.{Syntax}
-use Rattle.c_grammar.specs.Spelling.{Stands}
-use Rattle.c_reading.specs.Parsers.{Wrong, Deep, same}
+use Rattle.c_reading.specs.Parsers.{same}
 use Rattle.c_parser.proofs.Asked.{place_of, type_of, joined}
 use Rattle.c_parser.proofs.Machine as m
 use Rattle.c_parser.proofs.Machine.{Frame, State, operand, have, named, opened, casting, want, got, Use, Under, Home, Naming, Heading, step, Next, goes, hole, opens, entered, spot, first, outer, use_hole, Op, op_of, own, left, is_op, takes, push, fill, shut, offer, close_use, close_block, is_block, inside, add, maybe_behind, start_behind, for_test, for_next, home_nesting, conclude, either, expect, item_of, item_end, value_after}
-use Rattle.c_parser.proofs.Trees.{at_of, said_name, said_element, said_call, said_number, said_character, said_paren, said_after, told_block, told_declared, told_evaluate, told_if, told_if_else, told_while, told_dowhile, told_for, told_switch, told_case, told_default, told_break, told_continue, told_return}
+use Rattle.c_parser.proofs.Trees.{said_name, said_call, said_number, said_character, said_after, told_declared, told_evaluate, told_dowhile, told_return}
 use Rattle.c_parser.proofs.Runs.{lex}
 use Rattle.c_parser.proofs.ExprRuns.{prec_high}
-use Rattle.c_parser.proofs.DeclComplete.{joined_other}
 use Rattle.c_parser.proofs.Fill.{trail_last, trail_snoc, fit_append, at_self, lead_first, hole_low, stands_it, text_have, Ok_have, filled_text, filled_ok}
-use Rattle.c_parser.proofs.Text.{trail, argument, object, a_parameter, items, tops, text_unders, ok_items, ok_unders, text_home, ok_home, text_type, text_naming, ok_naming, text_heading, text_use, ok_use, place, begun, text_frames, ok_frames, low, lead, ending}
-
+use Rattle.c_parser.proofs.Text.{trail, argument, object, tops, text_unders, ok_unders, text_home, ok_home, text_type, text_naming, ok_naming, text_use, ok_use, text_frames, ok_frames, lead, ending}
 use denote.Enum.Bare.{same_true}
 use Rattle.c_grammar.specs.contracts.sign.Sign.{the_type}
 use Rattle.std.proofs.Common.{rules}
 use Rattle.c_grammar.specs.Operators.{binary_sign}
 use Rattle.c_parser.proofs.ExprRuns.{prec_low}
 use Rattle.c_parser.proofs.Fill.{trail_leaves}
-use Rattle.c_parser.proofs.Text.{begun_under}
-use Rattle.c_parser.proofs.Reached.{Taken, Pre, pre_as, pre_more, word_is, joined_sign, type_sign, type_no_other, type_snoc, type_at_snoc, type_then, type_at_then, returned_then, trail_pieces, comma_pieces, each_snoc, each_items, tops_snoc, tops_fit, items_snoc, items_fit, Stat_text, signed, text_header, Reached, Stepped}
+use Rattle.c_parser.proofs.Reached.{Taken, Pre, pre_as, pre_more, word_is, joined_sign, type_sign, type_no_other, type_snoc, type_then, type_at_then, trail_pieces, comma_pieces, tops_snoc, tops_fit, items_snoc, items_fit, Stat_text, signed, Reached, Stepped}
 
 -- ---- single facts
 
@@ -272,8 +258,10 @@ module _ (xs : Taken) (t : Lexeme) where
       go (m.joins o) w2 nm h l = (none_at _ (text_frames (m.binary e o ∷ fs) u) (binary_sign o) _ w2 nm p.0 (λ r. ap (λ n. text_frames fs u ((about e).leaves n (leaf (a_sign (binary_sign o)) None (first fs u + (about e).marks) ∷ r))) (sym (lead_first fs u (about e) (omega (arith, l, prec_low o))))), (and_from _ _ (stands_it (precedence o) (about e) l p.1.fits) refl, h, p.1.frames))
       go (m.assigns o) w2 nm h l = (none_at _ (text_frames (m.assign e o ∷ fs) u) (assign_sign o) _ w2 nm p.0 (λ r. ap (λ n. text_frames fs u ((about e).leaves n (leaf (a_sign (assign_sign o)) None (first fs u + (about e).marks) ∷ r))) (sym (lead_first fs u (about e) (omega (arith, l))))), (and_from _ _ (stands_it 14 (about e) l p.1.fits) refl, h, p.1.frames))
       go m.asks w2 nm h l = (none_at _ (text_frames (m.question e ∷ fs) u) sign.Question _ w2 nm p.0 (λ r. ap (λ n. text_frames fs u ((about e).leaves n (leaf (a_sign sign.Question) None (first fs u + (about e).marks) ∷ r))) (sym (lead_first fs u (about e) (omega (arith, l))))), (and_from _ _ (stands_it 3 (about e) l p.1.fits) refl, h, p.1.frames))
-      go (m.steps o) w2 nm h l = (none_at _ (text_have (tree.After (place_of e) e o) fs u) (step_sign o) _ w2 nm p.0 (λ r. lit (tree.After (place_of e) e o) _ fs u r (said_after (place_of e) e o) (omega arith) ∙ ap (λ n. text_frames fs u ((about e).leaves n (leaf (a_sign (step_sign o)) None (first fs u + (about e).marks) ∷ r))) (sym (lead_first fs u (about e) (omega (arith, l))))),
-          lit_ok (tree.After (place_of e) e o) _ fs u (said_after (place_of e) e o) (omega arith) (and_from _ _ (at_self e) (and_from _ _ (stands_it 15 (about e) l p.1.fits) refl)) p.1.frames)
+      go (m.steps o) w2 nm h l = (
+        none_at _ (text_have (tree.After (place_of e) e o) fs u) (step_sign o) _ w2 nm p.0 (λ r. lit (tree.After (place_of e) e o) _ fs u r (said_after (place_of e) e o) (omega arith) ∙ ap (λ n. text_frames fs u ((about e).leaves n (leaf (a_sign (step_sign o)) None (first fs u + (about e).marks) ∷ r))) (sym (lead_first fs u (about e) (omega (arith, l))))),
+        lit_ok (tree.After (place_of e) e o) _ fs u (said_after (place_of e) e o) (omega arith) (and_from _ _ (at_self e) (and_from _ _ (stands_it 15 (about e) l p.1.fits) refl)) p.1.frames,
+      )
       go m.commas w2 nm h l = (none_at _ (text_frames (m.comma e ∷ fs) u) sign.Comma _ w2 nm p.0 (λ r. ap (λ b. text_frames fs u ((about e).leaves (cond b (entry (spot fs u) (about e)) (first fs u)) (leaf (a_sign sign.Comma) None (behind (spot fs u) (about e)) ∷ r))) (sym (hole_low fs u (omega (arith, h))))), (and_from _ _ p.1.fits refl, h, p.1.frames))
       go m.closes w2 nm h l = tt
 
@@ -318,8 +306,11 @@ module _ (xs : Taken) (t : Lexeme) where
 
   -- the values of a list, and a comma
   value_after_reached : (n : ℕ) (i : Naming) (z : Size) (es : List Expr) (e : Expr) → Pre (xs ++ (t, n) ∷ []) (text_use (m.list_ i z (es ++ e ∷ []))) → ok_use (m.list_ i z (es ++ e ∷ [])) → Reached (xs ++ (t, n) ∷ []) (value_after i z (es ++ e ∷ []))
-  value_after_reached n i z es e p ok = ((λ q. item_end_reached (signed (xs ++ (t, n) ∷ []) sign.RightBrace _ q) i z (initialiser.List (es ++ e ∷ []) true)
-      (by_sign (xs ++ (t, n) ∷ []) (text_use (m.list_ i z (es ++ e ∷ []))) _ sign.RightBrace _ q p (λ r. ap (λ l. text_naming i (leaves_of (sized z) (home_nesting i.home) l)) (listed_text es r))) ok.0 (listed_fit es ok.1) ok.2), (p, ok))
+  value_after_reached n i z es e p ok = (
+    (λ q. item_end_reached (signed (xs ++ (t, n) ∷ []) sign.RightBrace _ q) i z (initialiser.List (es ++ e ∷ []) true)
+        (by_sign (xs ++ (t, n) ∷ []) (text_use (m.list_ i z (es ++ e ∷ []))) _ sign.RightBrace _ q p (λ r. ap (λ l. text_naming i (leaves_of (sized z) (home_nesting i.home) l)) (listed_text es r))) ok.0 (listed_fit es ok.1) ok.2),
+    (p, ok),
+  )
     where
       listed_text : (es : List Expr) (r : List Leaf) → leaves_of (initialised (initialiser.List (es ++ e ∷ []) true)) (home_nesting i.home) r
           ≡ leaf (a_sign sign.Assign) None (home_nesting i.home) ∷ leaf (a_sign sign.LeftBrace) None (home_nesting i.home) ∷ leaves_of (trail argument (es ++ e ∷ [])) (home_nesting i.home) (leaf (a_sign sign.RightBrace) None (home_nesting i.home) ∷ r)
@@ -354,17 +345,27 @@ module _ (xs : Taken) (t : Lexeme) where
   for_last at us b x e r = for_parts at us b _ r ∙ ap (λ l. for_text at us (started b) l) (maybe_then x _ _ r) ∙ sym (for_parts at us b _ _ ∙ ap (λ l. for_text at us (started b) l) (maybe_then x _ _ _))
 
   use_reached : (u : Use) (e : Expr) (s : Sign) → sign_of_word t.word ≡ s → Reached xs (have e [] u) → Stepped xs t (close_use u e s)
-  use_reached (m.evaluate us) e sign.Semicolon w p = (none_at _ (Stat_text (tree_.Evaluate (place_of e) (Some e)) us) sign.Semicolon _ w refl p.0 (λ r. ap (λ (s : Said). text_unders us (s.leaves (suc (inside us)) r)) (told_evaluate (place_of e) (Some e))), p.1.frames,
-      ap (λ (s : Said). stands 2 s) (told_evaluate (place_of e) (Some e)) ∙ and_from _ _ (at_self e) (and_from _ _ p.1.fits refl))
+  use_reached (m.evaluate us) e sign.Semicolon w p = (
+    none_at _ (Stat_text (tree_.Evaluate (place_of e) (Some e)) us) sign.Semicolon _ w refl p.0 (λ r. ap (λ (s : Said). text_unders us (s.leaves (suc (inside us)) r)) (told_evaluate (place_of e) (Some e))),
+    p.1.frames,
+    ap (λ (s : Said). stands 2 s) (told_evaluate (place_of e) (Some e)) ∙ and_from _ _ (at_self e) (and_from _ _ p.1.fits refl),
+  )
   use_reached (m.if_ at us) e sign.RightParen w p = (none_at _ (text_unders (m.in_if at e ∷ us)) sign.RightParen _ w refl p.0 (λ r. refl), (and_from _ _ p.1.fits refl, p.1.frames))
   use_reached (m.while_ at us) e sign.RightParen w p = (none_at _ (text_unders (m.in_while at e ∷ us)) sign.RightParen _ w refl p.0 (λ r. refl), (and_from _ _ p.1.fits refl, p.1.frames))
-  use_reached (m.switch_ at us) e sign.RightParen w p = λ q. (by_sign (xs ++ (t, behind (suc (inside us)) (about e)) ∷ []) (λ r. text_unders us (leaves_at at (the_sign sign.Switch ∷ condition e []) (suc (inside us)) r)) (text_unders (m.in_switch at e [] ∷ us)) sign.LeftBrace _ q
-      (none_at _ (λ r. text_unders us (leaves_at at (the_sign sign.Switch ∷ condition e []) (suc (inside us)) r)) sign.RightParen _ w refl p.0 (λ r. refl)) (λ r. refl), (and_from _ _ p.1.fits refl, refl, p.1.frames))
+  use_reached (m.switch_ at us) e sign.RightParen w p = λ q. (
+    by_sign (xs ++ (t, behind (suc (inside us)) (about e)) ∷ []) (λ r. text_unders us (leaves_at at (the_sign sign.Switch ∷ condition e []) (suc (inside us)) r)) (text_unders (m.in_switch at e [] ∷ us)) sign.LeftBrace _ q
+        (none_at _ (λ r. text_unders us (leaves_at at (the_sign sign.Switch ∷ condition e []) (suc (inside us)) r)) sign.RightParen _ w refl p.0 (λ r. refl)) (λ r. refl),
+    (and_from _ _ p.1.fits refl, refl, p.1.frames),
+  )
   use_reached (m.start_ at us) e sign.Semicolon w p = test_reached (xs ++ (t, behind (suc (inside us)) (about e)) ∷ []) at (start.Value e) us (none_at _ (for_text at us (started (start.Value e))) sign.Semicolon _ w refl p.0 (λ r. refl)) (and_from _ _ p.1.fits refl) p.1.frames
   use_reached (m.return_ at us) e sign.Semicolon w p = (none_at _ (Stat_text (tree_.Return at (Some e)) us) sign.Semicolon _ w refl p.0 (λ r. ap (λ (s : Said). text_unders us (s.leaves (suc (inside us)) r)) (told_return at (Some e))), p.1.frames, ap (λ (s : Said). stands 2 s) (told_return at (Some e)) ∙ and_from _ _ p.1.fits refl)
   use_reached (m.case_ at us) e sign.Colon w p = (none_at _ (text_unders (m.in_case at e ∷ us)) sign.Colon _ w refl p.0 (λ r. refl), (and_from _ _ (stands_it 2 (about e) p.1.level p.1.fits) refl, p.1.frames))
-  use_reached (m.do_ at x us) e sign.RightParen w p = λ q. (by_sign (xs ++ (t, behind (suc (inside us)) (about e)) ∷ []) (λ r. text_unders us (leaves_at at (the_sign sign.Do ∷ open_ 1 (about_statement x) ∷ the_sign sign.While ∷ condition e []) (suc (inside us)) r)) (Stat_text (tree_.DoWhile at x e) us) sign.Semicolon _ q
-      (none_at _ _ sign.RightParen _ w refl p.0 (λ r. refl)) (λ r. ap (λ (s : Said). text_unders us (s.leaves (suc (inside us)) r)) (told_dowhile at x e)), p.1.frames.1, ap (λ (s : Said). stands 2 s) (told_dowhile at x e) ∙ and_from _ _ p.1.frames.0 (and_from _ _ p.1.fits refl))
+  use_reached (m.do_ at x us) e sign.RightParen w p = λ q. (
+    by_sign (xs ++ (t, behind (suc (inside us)) (about e)) ∷ []) (λ r. text_unders us (leaves_at at (the_sign sign.Do ∷ open_ 1 (about_statement x) ∷ the_sign sign.While ∷ condition e []) (suc (inside us)) r)) (Stat_text (tree_.DoWhile at x e) us) sign.Semicolon _ q
+        (none_at _ _ sign.RightParen _ w refl p.0 (λ r. refl)) (λ r. ap (λ (s : Said). text_unders us (s.leaves (suc (inside us)) r)) (told_dowhile at x e)),
+    p.1.frames.1,
+    ap (λ (s : Said). stands 2 s) (told_dowhile at x e) ∙ and_from _ _ p.1.frames.0 (and_from _ _ p.1.fits refl),
+  )
   use_reached (m.test_ at b us) e sign.Semicolon w p = next_reached (xs ++ (t, behind (start_behind (suc (inside us)) b) (about e)) ∷ []) at b (Some e) us (none_at _ (text_use (m.next_ at b (Some e) us)) sign.Semicolon _ w refl p.0 (for_value at us b e)) p.1.frames.0 (and_from _ _ p.1.fits refl) p.1.frames.1
   use_reached (m.next_ at b x us) e sign.RightParen w p = (none_at _ (text_unders (m.in_for at b x (Some e) ∷ us)) sign.RightParen _ w refl p.0 (for_last at us b x e), (fit_append (started b) _ p.1.frames.0 (fit_append (maybe x) _ p.1.frames.1 (and_from _ _ p.1.fits refl)), p.1.frames.2))
   use_reached (m.size_ i) e sign.RightBracket w p = (none_at _ (λ r. text_naming i (leaves_of (sized (size.Given e)) (home_nesting i.home) r)) sign.RightBracket _ w refl p.0 (λ r. refl), and_from _ _ (stands_it 2 (about e) p.1.level p.1.fits) refl, p.1.frames)
@@ -394,9 +395,11 @@ module _ (xs : Taken) (t : Lexeme) where
   shut_reached (m.paren at) e fs u s more w p go = stepped_on s sign.RightParen _ None (λ h. (none_at _ (text_have (tree.Paren at e) fs u) sign.RightParen _ (w ∙ h) refl p.0 (λ r. filled_text e (m.paren at) fs u r p.1), filled_ok e (m.paren at) fs u p.1)) (λ h. tt)
   shut_reached (m.element at n) e fs u s more w p go = stepped_on s sign.RightBracket _ None (λ h. (none_at _ (text_have (tree.Element at n e) fs u) sign.RightBracket _ (w ∙ h) refl p.0 (λ r. filled_text e (m.element at n) fs u r p.1), filled_ok e (m.element at n) fs u p.1)) (λ h. tt)
   shut_reached (m.arguments at n es) e fs u s more w p go = stepped_on s sign.Comma _ _
-    (λ h. (none_at _ (text_frames (m.arguments at n (es ++ e ∷ []) ∷ fs) u) sign.Comma _ (w ∙ h) refl p.0 (λ r. ap (λ l. text_frames fs u (leaf (a_name n) (Some at) (first fs u) ∷ leaf (a_sign sign.LeftParen) None (first fs u) ∷ l)) (ap (λ ps. leaves_of ps (first fs u) r) (sym (append-nil (trail argument (es ++ e ∷ []))) ∙ trail_snoc argument es e []) ∙ trail_leaves about 1 es (argument e ∷ the_sign sign.Comma ∷ []) (first fs u) r)),
-      ((ap all_fit (sym (append-nil (trail argument (es ++ e ∷ []))) ∙ trail_snoc argument es e []) ∙ fit_append (trail argument es) (argument e ∷ the_sign sign.Comma ∷ []) p.1.frames.0 (and_from _ _ (stands_it 1 (about e) p.1.level p.1.fits) refl)), p.1.frames.1, p.1.frames.2)))
-    (λ g. stepped_on s sign.RightParen _ None (λ h. (none_at _ (text_have (tree.Call at n (es ++ e ∷ [])) fs u) sign.RightParen _ (w ∙ h) refl p.0 (λ r. filled_text e (m.arguments at n es) fs u r p.1), filled_ok e (m.arguments at n es) fs u p.1)) (λ h. tt))
+      (λ h. (
+        none_at _ (text_frames (m.arguments at n (es ++ e ∷ []) ∷ fs) u) sign.Comma _ (w ∙ h) refl p.0 (λ r. ap (λ l. text_frames fs u (leaf (a_name n) (Some at) (first fs u) ∷ leaf (a_sign sign.LeftParen) None (first fs u) ∷ l)) (ap (λ ps. leaves_of ps (first fs u) r) (sym (append-nil (trail argument (es ++ e ∷ []))) ∙ trail_snoc argument es e []) ∙ trail_leaves about 1 es (argument e ∷ the_sign sign.Comma ∷ []) (first fs u) r)),
+        ((ap all_fit (sym (append-nil (trail argument (es ++ e ∷ []))) ∙ trail_snoc argument es e []) ∙ fit_append (trail argument es) (argument e ∷ the_sign sign.Comma ∷ []) p.1.frames.0 (and_from _ _ (stands_it 1 (about e) p.1.level p.1.fits) refl)), p.1.frames.1, p.1.frames.2),
+      ))
+      (λ g. stepped_on s sign.RightParen _ None (λ h. (none_at _ (text_have (tree.Call at n (es ++ e ∷ [])) fs u) sign.RightParen _ (w ∙ h) refl p.0 (λ r. filled_text e (m.arguments at n es) fs u r p.1), filled_ok e (m.arguments at n es) fs u p.1)) (λ h. tt))
 
   pub offer_reached : (fs : List Frame) (e : Expr) (u : Use) (s : Sign) → sign_of_word t.word ≡ s → Reached xs (have e fs u) → Stepped xs t (offer s e fs u)
   offer_reached [] e u s w p = stepped_if (takes [] u (op_of s) e) _ _ (λ h. pushed_reached s (op_of s) e [] u w refl h p) (λ h. use_reached u e s w p)
@@ -404,8 +407,9 @@ module _ (xs : Taken) (t : Lexeme) where
 
   pub named_reached : (at : At) (n : List ℕ) (fs : List Frame) (u : Use) (s : Sign) → sign_of_word t.word ≡ s → Reached xs (m.named at n fs u) → Stepped xs t (m.on_name at n fs u s)
   named_reached at n fs u sign.LeftParen w p =
-      let q = none_at _ (text_frames (m.arguments at n [] ∷ fs) u) sign.LeftParen _ w refl p.0 (λ r. refl) in
-      ((λ z. (by_sign _ (text_frames (m.arguments at n [] ∷ fs) u) (text_have (tree.Call at n []) fs u) sign.RightParen _ z q (λ r. lit (tree.Call at n []) _ fs u r (said_call at n []) (omega arith)), lit_ok (tree.Call at n []) _ fs u (said_call at n []) (omega arith) refl p.1)),
-        (q, (refl, omega (arith, hole_max fs u), p.1)))
+      let q = none_at _ (text_frames (m.arguments at n [] ∷ fs) u) sign.LeftParen _ w refl p.0 (λ r. refl) in (
+        (λ z. (by_sign _ (text_frames (m.arguments at n [] ∷ fs) u) (text_have (tree.Call at n []) fs u) sign.RightParen _ z q (λ r. lit (tree.Call at n []) _ fs u r (said_call at n []) (omega arith)), lit_ok (tree.Call at n []) _ fs u (said_call at n []) (omega arith) refl p.1)),
+        (q, (refl, omega (arith, hole_max fs u), p.1)),
+      )
   named_reached at n fs u sign.LeftBracket w p = (none_at _ (text_frames (m.element at n ∷ fs) u) sign.LeftBracket _ w refl p.0 (λ r. refl), (refl, omega (arith, hole_max fs u), p.1))
   named_reached at n fs u s w p = offer_reached fs (tree.Name at n) u s w (pre_as xs _ _ (λ r. lit (tree.Name at n) _ fs u r (said_name at n) (omega arith)) p.0, lit_ok (tree.Name at n) _ fs u (said_name at n) (omega arith) refl p.1)

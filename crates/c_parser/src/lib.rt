@@ -9,3 +9,8 @@ pub mod law;
 mod parser;
 
 pub use parser::parse;
+
+#[cfg(test)]
+mod printed;
+#[cfg(test)]
+mod tests;

@@ -1,36 +1,29 @@
 -- The machine over the words of an expression comes to have that expression.
-use Rattle.std.proofs.Common.{◌≡◌, ℕ, ℤ, zero, suc, ◌+◌, ◌<◌, ◌≤◌, Bool, true, false, cond, nat_le, ◌==◌, ◌&&◌, List, [], ◌∷◌, ◌++◌, length, map, Option, Some, None, Ok, Err, refl, sym, ap, subst, ◌∙◌, append_assoc, arith}
-use Rattle.std.proofs.lemmas.Bool.{and_parts, leb-true, le-leb, leb-false, and_from}
-use Rattle.std.proofs.lemmas.Bool.Decides.{nat_tests}
-use Rattle.std.proofs.lemmas.List.{append-nil}
+use Rattle.std.proofs.Common.{◌≡◌, ℕ, ℤ, suc, ◌+◌, ◌≤◌, Bool, true, cond, ◌&&◌, List, [], ◌∷◌, ◌++◌, map, Some, None, refl, sym, ap, subst, ◌∙◌, append_assoc, arith}
+use Rattle.std.proofs.lemmas.Bool.{and_parts, le-leb}
 use Rattle.c_tree.specs.declared.token.At.{At}
 use Rattle.c_tree.specs.declared.syntax.TypeWords.{TypeWords}
 use Rattle.c_tree.specs.declared.syntax.TypeWords.TheVariants as words
 use Rattle.c_tree.specs.declared.syntax.BinaryOperator.{BinaryOperator}
-use Rattle.c_tree.specs.declared.syntax.BinaryOperator.TheVariants as binary_
 use Rattle.c_tree.specs.declared.syntax.AssignOperator.{AssignOperator}
-use Rattle.c_tree.specs.declared.syntax.AssignOperator.TheVariants as assign_
 use Rattle.c_tree.specs.declared.syntax.UnaryOperator.{UnaryOperator}
 use Rattle.c_tree.specs.declared.syntax.UnaryOperator.TheVariants as unary_
 use Rattle.c_tree.specs.declared.syntax.StepOperator.{StepOperator}
 use Rattle.c_tree.specs.declared.syntax.StepOperator.TheVariants as step_
 use Rattle.c_tree.specs.declared.syntax.Expr.{Expr}
 use Rattle.c_tree.specs.declared.syntax.Expr.TheVariants as tree
-use Rattle.c_tree.specs.declared.syntax.Expr.TheOpen.{Expr-F, Comma, Assign, Conditional, Binary, Cast, Unary, Before, After, Name, Element, Call, Number, Character, Paren}
 use Rattle.c_grammar.specs.declared.sign.Sign.{Sign}
 use Rattle.c_grammar.specs.declared.sign.Sign.TheVariants as sign
-use Rattle.c_grammar.specs.Words.{Word, a_name, a_number, a_character, a_sign, sign_of_word, Lexeme}
+use Rattle.c_grammar.specs.Words.{a_sign, sign_of_word, Lexeme}
 use Rattle.c_grammar.specs.Operators.{precedence, binary_sign, assign_sign, unary_sign, step_sign}
-use Rattle.c_grammar.specs.Phrases.{Leaf, leaf, Said, Part, sub, stands, is_at, same_place, entry, behind, leaves_of, leaves_at, all_fit, commas, the_sign, operator}
-use Rattle.c_grammar.specs.Grammar.{about, expression, type, assign}
-use Rattle.c_grammar.specs.Spelling.{Stands}
-use Rattle.c_reading.specs.Parsers.{Wrong, Deep, same}
-use Rattle.c_parser.proofs.Asked.{place_of, type_of, joined}
+use Rattle.c_grammar.specs.Phrases.{Leaf, leaf, Said, Part, sub, stands, is_at, entry, leaves_of, all_fit, commas, the_sign, operator}
+use Rattle.c_grammar.specs.Grammar.{about, type, assign}
+use Rattle.c_parser.proofs.Asked.{place_of, joined}
 use Rattle.c_parser.proofs.Machine as m
 use Rattle.c_parser.proofs.Machine.{State, operand, have, named, opened, casting, Frame, Use, step, run, Outcome, Next, goes, moved, hole, opens, entered, spot, first, Op, op_of, own, left, is_op, takes, push, fill, shut, offer, close_use}
-use Rattle.c_parser.proofs.Trees.{at_of, induction, said_comma, said_assign, said_conditional, said_binary, said_cast, said_unary, said_before, said_after, said_name, said_element, said_call, said_number, said_character, said_paren}
-use Rattle.c_parser.proofs.Runs.{lex, head_sign, starts, Met, met_as, took, skip, alike, typed, Typing, type_leaves, type_of_leaves}
-use Rattle.c_parser.proofs.ExprRuns.{not_sign, Left, Fit, fit, left_fit, placed, binds, Follow, follow_up, follow_none, follow_comma, prec_low, prec_high, binary_op, assign_op, step_op, binary_binds, assign_binds, step_binds, under, pushed, shut_by, shut_none, open_hole, open_first, entry_open, heads, no_type}
+use Rattle.c_parser.proofs.Trees.{induction, said_comma, said_assign, said_conditional, said_binary, said_cast, said_unary, said_before, said_after, said_name, said_element, said_call, said_number, said_character, said_paren}
+use Rattle.c_parser.proofs.Runs.{lex, head_sign, starts, Met, met_as, took, skip, alike, typed, Typing, type_of_leaves}
+use Rattle.c_parser.proofs.ExprRuns.{not_sign, fit, left_fit, placed, binds, Follow, follow_up, follow_none, follow_comma, prec_low, prec_high, binary_op, assign_op, step_op, binary_binds, assign_binds, step_binds, under, pushed, shut_by, shut_none, open_first, entry_open, heads, no_type}
 
 abbrev a_sign_leaf : Sign → ℕ → Leaf
 a_sign_leaf s n = leaf (a_sign s) None n

@@ -1,12 +1,10 @@
 -- The machine over the words of an expression comes to have that expression.
 use denote.Enum.Bare.{same_true}
 use Rattle.c_grammar.specs.contracts.sign.Sign.{the_type}
-use Rattle.std.proofs.Common.{rules, ◌≡◌, ℕ, ℤ, zero, suc, ◌+◌, ◌<◌, ◌≤◌, Bool, true, false, cond, nat_le, ◌==◌, ◌&&◌, List, [], ◌∷◌, ◌++◌, length, map, Option, Some, None, Ok, Err, refl, sym, ap, subst, ◌∙◌, append_assoc, arith}
-use Rattle.std.proofs.lemmas.Bool.{and_parts, leb-true, le-leb, leb-false, and_from}
+use Rattle.std.proofs.Common.{rules, ◌≡◌, ℕ, suc, ◌<◌, ◌≤◌, Bool, true, false, cond, nat_le, ◌&&◌, List, [], ◌∷◌, map, None, refl, sym, ap, subst, ◌∙◌, arith}
+use Rattle.std.proofs.lemmas.Bool.{and_parts, leb-true, le-leb, and_from}
 use Rattle.std.proofs.lemmas.Bool.Decides.{nat_tests}
-use Rattle.std.proofs.lemmas.List.{append-nil}
 use Rattle.c_tree.specs.declared.token.At.{At}
-use Rattle.c_tree.specs.declared.syntax.TypeWords.{TypeWords}
 use Rattle.c_tree.specs.declared.syntax.BinaryOperator.{BinaryOperator}
 use Rattle.c_tree.specs.declared.syntax.BinaryOperator.TheVariants as binary_
 use Rattle.c_tree.specs.declared.syntax.AssignOperator.{AssignOperator}
@@ -16,21 +14,18 @@ use Rattle.c_tree.specs.declared.syntax.UnaryOperator.TheVariants as unary_
 use Rattle.c_tree.specs.declared.syntax.StepOperator.{StepOperator}
 use Rattle.c_tree.specs.declared.syntax.StepOperator.TheVariants as step_
 use Rattle.c_tree.specs.declared.syntax.Expr.{Expr}
-use Rattle.c_tree.specs.declared.syntax.Expr.TheVariants as tree
-use Rattle.c_tree.specs.declared.syntax.Expr.TheOpen.{Expr-F, Comma, Assign, Conditional, Binary, Cast, Unary, Before, After, Name, Element, Call, Number, Character, Paren}
 use Rattle.c_grammar.specs.declared.sign.Sign.{Sign}
 use Rattle.c_grammar.specs.declared.sign.Sign.TheVariants as sign
-use Rattle.c_grammar.specs.Words.{Word, a_name, a_number, a_character, a_sign, sign_of_word, Lexeme}
+use Rattle.c_grammar.specs.Words.{Word, a_name, a_number, a_character, a_sign, sign_of_word}
 use Rattle.c_grammar.specs.Operators.{precedence, binary_sign, assign_sign, unary_sign, step_sign}
-use Rattle.c_grammar.specs.Phrases.{Leaf, leaf, Said, Part, sub, stands, is_at, same_place, entry, behind, leaves_of, leaves_at, all_fit, commas, the_sign, operator}
-use Rattle.c_grammar.specs.Grammar.{about, expression, type, assign}
-use Rattle.c_grammar.specs.Spelling.{Stands}
-use Rattle.c_reading.specs.Parsers.{Wrong, Deep, same}
-use Rattle.c_parser.proofs.Asked.{place_of, type_of, joined}
+use Rattle.c_grammar.specs.Phrases.{Leaf, Said, stands, is_at, same_place, entry}
+use Rattle.c_grammar.specs.Grammar.{about}
+use Rattle.c_reading.specs.Parsers.{same}
+use Rattle.c_parser.proofs.Asked.{place_of, type_of}
 use Rattle.c_parser.proofs.Machine as m
 use Rattle.c_parser.proofs.Machine.{State, operand, have, named, opened, casting, Frame, Use, step, run, Outcome, Next, goes, moved, hole, opens, entered, spot, first, Op, op_of, own, left, is_op, takes, push, fill, shut, offer, close_use}
 use Rattle.c_parser.proofs.Trees.{at_of, induction, said_comma, said_assign, said_conditional, said_binary, said_cast, said_unary, said_before, said_after, said_name, said_element, said_call, said_number, said_character, said_paren}
-use Rattle.c_parser.proofs.Runs.{lex, head_sign, starts, Met, met_as, took, skip, typed, Typing, type_leaves, type_of_leaves}
+use Rattle.c_parser.proofs.Runs.{head_sign, starts}
 
 -- ---- what fits
 

@@ -1,35 +1,23 @@
 -- What is read of an expression with its last part, and that it fits.
-use Rattle.std.proofs.Common.{◌≡◌, ℕ, ℤ, zero, suc, ◌+◌, ◌<◌, ◌≤◌, Bool, true, false, cond, nat_le, ◌==◌, ◌&&◌, List, [], ◌∷◌, ◌++◌, length, map, Option, Some, None, Ok, Err, refl, sym, ap, subst, ◌∙◌, append_assoc, arith}
-use Rattle.std.proofs.lemmas.Bool.{and_parts, leb-true, le-leb, leb-false, and_from, cases_Bool}
+use Rattle.std.proofs.Common.{◌≡◌, ℕ, suc, ◌+◌, ◌≤◌, Bool, true, false, cond, nat_le, ◌==◌, ◌&&◌, List, [], ◌∷◌, ◌++◌, map, Some, None, refl, sym, ap, subst, ◌∙◌, append_assoc, arith}
+use Rattle.std.proofs.lemmas.Bool.{and_parts, le-leb, and_from}
 use Rattle.std.proofs.lemmas.Bool.Decides.{nat_tests}
-use Rattle.std.proofs.lemmas.List.{append-nil}
 use Rattle.c_tree.specs.declared.token.At.{At}
 use Rattle.c_tree.specs.declared.syntax.TypeWords.{TypeWords}
 use Rattle.c_tree.specs.declared.syntax.TypeWords.TheVariants as words
-use Rattle.c_tree.specs.declared.syntax.BinaryOperator.{BinaryOperator}
-use Rattle.c_tree.specs.declared.syntax.BinaryOperator.TheVariants as binary_
-use Rattle.c_tree.specs.declared.syntax.AssignOperator.{AssignOperator}
-use Rattle.c_tree.specs.declared.syntax.AssignOperator.TheVariants as assign_
-use Rattle.c_tree.specs.declared.syntax.UnaryOperator.{UnaryOperator}
-use Rattle.c_tree.specs.declared.syntax.UnaryOperator.TheVariants as unary_
-use Rattle.c_tree.specs.declared.syntax.StepOperator.{StepOperator}
-use Rattle.c_tree.specs.declared.syntax.StepOperator.TheVariants as step_
 use Rattle.c_tree.specs.declared.syntax.Expr.{Expr}
 use Rattle.c_tree.specs.declared.syntax.Expr.TheVariants as tree
-use Rattle.c_tree.specs.declared.syntax.Expr.TheOpen.{Expr-F, Comma, Assign, Conditional, Binary, Cast, Unary, Before, After, Name, Element, Call, Number, Character, Paren}
-use Rattle.c_grammar.specs.declared.sign.Sign.{Sign}
 use Rattle.c_grammar.specs.declared.sign.Sign.TheVariants as sign
-use Rattle.c_grammar.specs.Words.{Word, a_name, a_number, a_character, a_sign, sign_of_word, Lexeme}
-use Rattle.c_grammar.specs.Operators.{precedence, binary_sign, assign_sign, unary_sign, step_sign}
+use Rattle.c_grammar.specs.Words.{a_name, a_sign}
+use Rattle.c_grammar.specs.Operators.{precedence}
 use Rattle.c_grammar.specs.Phrases.{Leaf, leaf, Said, Part, sub, stands, is_at, same_place, entry, behind, leaves_of, leaves_at, all_fit, open_, expr, piece, commas, the_sign, operator, begins_at, node}
 use Rattle.c_grammar.specs.Phrases as m2
-use Rattle.c_grammar.specs.Grammar.{about, expression, type, assign}
-use Rattle.c_grammar.specs.Spelling.{Stands}
-use Rattle.c_reading.specs.Parsers.{Wrong, Deep, same}
-use Rattle.c_parser.proofs.Asked.{place_of, type_of, joined}
+use Rattle.c_grammar.specs.Grammar.{about, type, assign}
+use Rattle.c_reading.specs.Parsers.{same}
+use Rattle.c_parser.proofs.Asked.{place_of}
 use Rattle.c_parser.proofs.Machine as m
 use Rattle.c_parser.proofs.Machine.{Frame, Use, use_hole, hole, opens, entered, spot, first, fill}
-use Rattle.c_parser.proofs.Trees.{at_of, said_comma, said_assign, said_conditional, said_binary, said_cast, said_unary, said_before, said_after, said_name, said_element, said_call, said_number, said_character, said_paren}
+use Rattle.c_parser.proofs.Trees.{at_of, said_comma, said_assign, said_conditional, said_binary, said_cast, said_unary, said_before, said_name, said_element, said_call, said_paren}
 use Rattle.c_parser.proofs.ExprRuns.{open_first, entry_open, prec_low}
 use Rattle.c_parser.proofs.Text.{trail, argument, place, begun, base, made_level, text_frames, ok_frames, use_low, low, lead, ending}
 

@@ -34,9 +34,9 @@ use Rattle.c_grammar.specs.declared.sign.Sign.{Sign}
 use Rattle.c_grammar.specs.declared.sign.Sign.TheVariants as sign
 use Rattle.c_grammar.specs.Words.{Word, a_name, a_number, a_character, a_sign, sign_of_word, Lexeme}
 use Rattle.c_grammar.specs.Operators.{precedence}
-use Rattle.c_grammar.specs.Phrases.{Said, entry, behind}
+use Rattle.c_grammar.specs.Phrases.{behind}
 use Rattle.c_grammar.specs.Grammar.{about}
-use Rattle.c_reading.specs.Parsers.{Trouble, Wrong, Deep, Out, same}
+use Rattle.c_reading.specs.Parsers.{Trouble, Wrong, Deep, same}
 use Rattle.c_parser.proofs.Asked.{place_of, type_of, joined}
 
 -- ---- what stands open

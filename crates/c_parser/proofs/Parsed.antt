@@ -1,5 +1,5 @@
 -- What the reading of a whole list of tokens says.
-use Rattle.std.proofs.Common.{◌≡◌, ℕ, zero, suc, ◌+◌, ◌<◌, ◌≤◌, Bool, true, false, cond, nat_le, List, [], ◌∷◌, ◌++◌, length, Option, Some, None, Ok, Err, Result, refl, sym, ap, subst, ◌∙◌, arith}
+use Rattle.std.proofs.Common.{◌≡◌, ℕ, suc, ◌<◌, ◌≤◌, true, List, [], ◌∷◌, ◌++◌, length, Ok, Err, refl, sym, ap, subst, ◌∙◌, arith}
 use Rattle.c_tree.specs.declared.syntax.Syntax.{Syntax}
 use Rattle.c_tree.specs.declared.syntax.External.{External}
 use denote.Enum.Bare.{same_true}
@@ -19,11 +19,11 @@ use Rattle.c_reading.specs.declared.fault.Fault.{Fault}
 use Rattle.c_reading.specs.declared.fault.Fault.TheVariants as fault
 use Rattle.c_parser.specs.Answers.{Breaks, no_program, too_deep, reason_of}
 use Rattle.c_grammar.specs.Spelling.{Spelled, FirstBad, FirstDeep, Ended}
-use Rattle.c_reading.specs.Parsers.{Trouble, Wrong, Deep, Out, Read, same, sign_at}
+use Rattle.c_reading.specs.Parsers.{Wrong, Deep, Out, Read, same, sign_at}
 use Rattle.c_reading.specs.Statements as st
 use Rattle.c_parser.proofs.Machine as m
 use Rattle.c_parser.proofs.Machine.{run, Outcome}
-use Rattle.c_parser.proofs.Whole.{tokens_of, shallow, okay, ok_same, Ran, All_read, Stuck, Sunk, outcome, read_spelled, stuck_at, sunk_at, never_behind, spelled_read}
+use Rattle.c_parser.proofs.Whole.{tokens_of, shallow, okay, ok_same, Ran, Stuck, Sunk, outcome, read_spelled, stuck_at, sunk_at, never_behind, spelled_read}
 use Rattle.c_parser.proofs.Sim.{Sim}
 use Rattle.c_parser.proofs.StatSim.{parts_sim}
 

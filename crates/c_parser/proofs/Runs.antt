@@ -1,21 +1,18 @@
 -- Runs of the machine over the words of a tree.
-use Rattle.std.proofs.Common.{◌≡◌, ℕ, zero, suc, ◌+◌, ◌<◌, ◌≤◌, Bool, true, false, cond, nat_le, ◌&&◌, List, [], ◌∷◌, ◌++◌, length, map, Option, Some, None, Ok, Err, refl, sym, ap, subst, ◌∙◌, arith}
-use Rattle.std.proofs.lemmas.Bool.{and_parts, leb-true}
+use Rattle.std.proofs.Common.{◌≡◌, ℕ, suc, Bool, true, false, cond, List, [], ◌∷◌, ◌++◌, length, Option, Some, None, Err, refl, ap, subst, ◌∙◌}
 use Rattle.c_tree.specs.declared.token.At.{At}
 use Rattle.c_tree.specs.declared.syntax.TypeWords.{TypeWords}
 use Rattle.c_tree.specs.declared.syntax.TypeWords.TheVariants as words
-use Rattle.c_tree.specs.declared.syntax.Expr.{Expr}
 use Rattle.c_grammar.specs.declared.sign.Sign.{Sign}
 use Rattle.c_grammar.specs.declared.sign.Sign.TheVariants as sign
-use Rattle.c_grammar.specs.Words.{Word, a_name, a_number, a_character, a_sign, sign_of_word, Lexeme}
-use Rattle.c_grammar.specs.Phrases.{Leaf, leaf, Said, Part, stands, is_at, same_place, leaves_of, leaves_at}
-use Rattle.c_grammar.specs.Grammar.{about, type}
+use Rattle.c_grammar.specs.Words.{Word, a_sign, sign_of_word, Lexeme}
+use Rattle.c_grammar.specs.Phrases.{Leaf, leaf, Part, leaves_of, leaves_at}
+use Rattle.c_grammar.specs.Grammar.{type}
 use Rattle.c_grammar.specs.Spelling.{Stands}
 use Rattle.c_reading.specs.Parsers.{Wrong, Deep}
-use Rattle.c_parser.proofs.Asked.{place_of, type_of, joined}
+use Rattle.c_parser.proofs.Asked.{type_of, joined}
 use Rattle.c_parser.proofs.Machine as m
 use Rattle.c_parser.proofs.Machine.{settled, State, step, run, Outcome, Next, moved, at_end}
-use Rattle.c_parser.proofs.Trees.{at_of}
 
 abbrev pub lex : Word → At → Lexeme
 lex w at = record { word = w; at = at }

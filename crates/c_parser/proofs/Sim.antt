@@ -3,10 +3,9 @@ use denote.Hole.Carrier
 use Rattle.c_tree.specs.declared.syntax.Expr.{out-Expr}
 use denote.Enum.Bare.{same_true}
 use Rattle.c_grammar.specs.contracts.sign.Sign.{the_type}
-use Rattle.std.proofs.Common.{rules, ◌≡◌, ℕ, ℤ, zero, suc, ◌+◌, ◌<◌, ◌≤◌, Bool, true, false, cond, nat_le, nat_lt, ◌==◌, ◌&&◌, List, [], ◌∷◌, ◌++◌, length, map, Option, Some, None, Ok, Err, refl, sym, ap, subst, ◌∙◌, append_assoc, arith}
-use Rattle.std.proofs.lemmas.Bool.{and_parts, leb-true, le-leb, leb-false, and_from, ltb-true, ltb-false}
+use Rattle.std.proofs.Common.{rules, ◌≡◌, ℕ, zero, suc, ◌+◌, ◌<◌, ◌≤◌, Bool, true, false, cond, nat_le, nat_lt, ◌&&◌, List, [], ◌∷◌, ◌++◌, length, map, Option, Some, None, Ok, Err, refl, sym, ap, subst, ◌∙◌, arith}
+use Rattle.std.proofs.lemmas.Bool.{leb-true, le-leb, leb-false, ltb-true, ltb-false}
 use Rattle.std.proofs.lemmas.Bool.Decides.{nat_tests}
-use Rattle.std.proofs.lemmas.List.{append-nil}
 use Rattle.c_tree.specs.declared.token.At.{At}
 use Rattle.c_tree.specs.declared.syntax.TypeWords.{TypeWords}
 use Rattle.c_tree.specs.declared.syntax.TypeWords.TheVariants as words
@@ -20,23 +19,20 @@ use Rattle.c_tree.specs.declared.syntax.StepOperator.{StepOperator}
 use Rattle.c_tree.specs.declared.syntax.StepOperator.TheVariants as step_
 use Rattle.c_tree.specs.declared.syntax.Expr.{Expr}
 use Rattle.c_tree.specs.declared.syntax.Expr.TheVariants as tree
-use Rattle.c_tree.specs.declared.syntax.Expr.TheOpen.{Expr-F, Comma, Assign, Conditional, Binary, Cast, Unary, Before, After, Name, Element, Call, Number, Character, Paren}
 use Rattle.c_grammar.specs.declared.sign.Sign.{Sign}
 use Rattle.c_grammar.specs.declared.sign.Sign.TheVariants as sign
 use Rattle.c_grammar.specs.Words.{Word, a_name, a_number, a_character, a_sign, sign_of_word, Lexeme}
-use Rattle.c_grammar.specs.Operators.{precedence, binary_sign, assign_sign, unary_sign, step_sign}
-use Rattle.c_grammar.specs.Phrases.{Leaf, leaf, Said, Part, sub, stands, is_at, same_place, entry, behind, leaves_of, leaves_at, all_fit, marks_of, commas, the_sign, operator}
-use Rattle.c_grammar.specs.Grammar.{about, expression, type, assign}
-use Rattle.c_grammar.specs.Spelling.{Stands}
-use Rattle.c_reading.specs.Parsers.{Trouble, Wrong, Deep, Out, same, Read, Parser, ◌>>=◌, ◌>>◌, and_then, pure, wrong, out, peek, word_at, place_at, sign_at, eat, expect, more, deeper, counted, phrase}
+use Rattle.c_grammar.specs.Operators.{precedence}
+use Rattle.c_grammar.specs.Phrases.{Said, sub, behind, marks_of, commas, the_sign, operator}
+use Rattle.c_grammar.specs.Grammar.{about, type, assign}
+use Rattle.c_reading.specs.Parsers.{Wrong, Deep, Out, same, Read, Parser, ◌>>=◌, ◌>>◌, and_then, pure, wrong, word_at, place_at, sign_at, eat, expect, more, deeper, counted}
 use Rattle.c_reading.specs.Expressions as r
 use Rattle.c_reading.specs.Trees as q
 use Rattle.c_parser.proofs.Asked.{place_of, type_of, joined}
 use Rattle.c_parser.proofs.Machine as m
 use Rattle.c_parser.proofs.Machine.{State, operand, have, named, opened, casting, Frame, Use, step, run, Outcome, Next, goes, moved, at_end, hole, opens, entered, spot, first, Op, op_of, own, left, is_op, takes, push, fill, shut, offer, close_use}
 use Rattle.c_parser.proofs.Trees.{induction, said_comma, said_assign, said_conditional, said_binary, said_cast, said_unary, said_before, said_after, said_name, said_element, said_call, said_number, said_character, said_paren, place_comma, place_assign, place_conditional, place_binary, place_cast, place_unary, place_before, place_after, place_name, place_element, place_call, place_number, place_character, place_paren}
-use Rattle.c_parser.proofs.ExprRuns.{prec_low, prec_high, passes, pushed, never, entry_open, open_hole}
-use Rattle.c_parser.proofs.Runs.{lex}
+use Rattle.c_parser.proofs.ExprRuns.{prec_low, prec_high, passes, pushed}
 use Rattle.c_parser.proofs.Reached.{word_is}
 
 -- ---- the reading's questions

@@ -1,20 +1,11 @@
 -- The machine over the words of a statement comes to have that statement, and over those of a program to its end.
-use denote.Enum.Bare.{same_true}
-use Rattle.c_grammar.specs.contracts.sign.Sign.{the_type}
-use Rattle.std.proofs.Common.{rules, ◌≡◌, ℕ, ℤ, zero, suc, ◌+◌, ◌<◌, ◌≤◌, Bool, true, false, cond, nat_le, ◌==◌, ◌&&◌, List, [], ◌∷◌, ◌++◌, length, map, Option, Some, None, Ok, Err, refl, sym, ap, subst, ◌∙◌, append_assoc, arith}
-use Rattle.std.proofs.lemmas.Bool.{and_parts, leb-true, le-leb, leb-false, and_from}
-use Rattle.std.proofs.lemmas.Bool.Decides.{nat_tests}
+use Rattle.std.proofs.Common.{◌≡◌, ℕ, suc, ◌≤◌, Bool, true, false, cond, nat_le, ◌&&◌, List, [], ◌∷◌, ◌++◌, map, Option, Some, None, Ok, refl, sym, ap, subst, ◌∙◌, append_assoc, arith}
+use Rattle.std.proofs.lemmas.Bool.{and_parts, leb-true}
 use Rattle.std.proofs.lemmas.List.{append-nil}
 use Rattle.c_tree.specs.declared.token.At.{At}
 use Rattle.c_tree.specs.declared.syntax.TypeWords.{TypeWords}
 use Rattle.c_tree.specs.declared.syntax.TypeWords.TheVariants as words
 use Rattle.c_tree.specs.declared.syntax.Expr.{Expr}
-use Rattle.c_tree.specs.declared.syntax.Expr.TheVariants as tree
-use Rattle.c_tree.specs.declared.syntax.Size.{Size}
-use Rattle.c_tree.specs.declared.syntax.Size.TheVariants as size
-use Rattle.c_tree.specs.declared.syntax.Initialiser.{Initialiser}
-use Rattle.c_tree.specs.declared.syntax.Initialiser.TheVariants as initialiser
-use Rattle.c_tree.specs.declared.syntax.Item.{Item}
 use Rattle.c_tree.specs.declared.syntax.Return.{Return}
 use Rattle.c_tree.specs.declared.syntax.Return.TheVariants as gives
 use Rattle.c_tree.specs.declared.syntax.Parameter.{Parameter}
@@ -24,25 +15,23 @@ use Rattle.c_tree.specs.declared.syntax.Declaration.{Declaration}
 use Rattle.c_tree.specs.declared.syntax.Declaration.TheVariants as declaration
 use Rattle.c_grammar.specs.declared.sign.Sign.{Sign}
 use Rattle.c_grammar.specs.declared.sign.Sign.TheVariants as sign
-use Rattle.c_grammar.specs.Words.{Word, a_name, a_number, a_character, a_sign, sign_of_word, Lexeme}
-use Rattle.c_grammar.specs.Phrases.{Leaf, leaf, Said, Part, sub, stands, is_at, same_place, entry, behind, leaves_of, leaves_at, all_fit, open_, expr, item, piece, commas, node, phrase, each, the_sign, operator}
-use Rattle.c_grammar.specs.Grammar.{about, type, value, maybe, started, condition, constant, statement_part, braces, block, declared, statement, about_statement, returned, called, listed, parameter, part, program}
+use Rattle.c_grammar.specs.Words.{Word, a_sign, sign_of_word, Lexeme}
+use Rattle.c_grammar.specs.Phrases.{Leaf, leaf, Said, Part, stands, is_at, entry, behind, leaves_of, leaves_at, all_fit, open_, item, piece, commas, node, each, the_sign}
+use Rattle.c_grammar.specs.Grammar.{about, maybe, started, condition, statement_part, block, declared, about_statement, returned, called, listed, parameter, part, program}
 use Rattle.c_tree.specs.declared.syntax.Start.{Start}
 use Rattle.c_tree.specs.declared.syntax.Start.TheVariants as start
 use Rattle.c_tree.specs.declared.syntax.Statement.{Statement}
 use Rattle.c_tree.specs.declared.syntax.Statement.TheVariants as tree_
-use Rattle.c_tree.specs.declared.syntax.Statement.TheOpen as s
 use Rattle.c_tree.specs.declared.syntax.External.{External}
 use Rattle.c_tree.specs.declared.syntax.External.TheVariants as external
 use Rattle.c_tree.specs.declared.syntax.Syntax.{Syntax}
-use Rattle.c_grammar.specs.Spelling.{Stands}
-use Rattle.c_reading.specs.Parsers.{Wrong, Deep, same}
-use Rattle.c_parser.proofs.Asked.{place_of, type_of, joined}
+use Rattle.c_reading.specs.Parsers.{same}
+use Rattle.c_parser.proofs.Asked.{place_of, type_of}
 use Rattle.c_parser.proofs.Machine as m
 use Rattle.c_parser.proofs.Machine.{State, operand, have, want, got, Use, Under, step, run, Outcome, Next, goes, moved, hole, first, outer, use_hole, op_of, closes, close_use, close_block, is_block, inside, add, maybe_behind, start_behind, for_test, for_next, offer, Home, home_nesting, conclude, header, either, expect}
-use Rattle.c_parser.proofs.Trees.{at_of, stat_induction, told_block, told_declared, told_evaluate, told_if, told_if_else, told_while, told_dowhile, told_for, told_switch, told_case, told_default, told_break, told_continue, told_return}
-use Rattle.c_parser.proofs.Runs.{lex, head_sign, starts, Met, met_as, took, took_any, skip, alike, type_leaves, type_at_leaves}
-use Rattle.c_parser.proofs.ExprRuns.{not_sign, Fit, fit, placed, binds, entry_open, Follow, follow_none, heads}
+use Rattle.c_parser.proofs.Trees.{stat_induction, told_block, told_declared, told_evaluate, told_if, told_if_else, told_while, told_dowhile, told_for, told_switch, told_case, told_default, told_break, told_continue, told_return}
+use Rattle.c_parser.proofs.Runs.{lex, head_sign, starts, Met, met_as, took, skip, alike, type_leaves, type_at_leaves}
+use Rattle.c_parser.proofs.ExprRuns.{not_sign, fit, placed, binds, entry_open, follow_none, heads}
 use Rattle.c_parser.proofs.ExprComplete.{complete}
 use Rattle.c_parser.proofs.DeclComplete.{Opens, declaration_run, heading_run}
 

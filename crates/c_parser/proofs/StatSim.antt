@@ -1,67 +1,37 @@
 -- The reading of statements and programs does what the machine does.
-use denote.Hole.Carrier
-use Rattle.c_tree.specs.declared.syntax.Expr.{out-Expr}
 use denote.Enum.Bare.{same_true}
 use Rattle.c_grammar.specs.contracts.sign.Sign.{the_type}
-use Rattle.std.proofs.Common.{rules, ◌⊎◌, inl, inr, ◌≡◌, ℕ, ℤ, zero, suc, ◌+◌, ◌<◌, ◌≤◌, Bool, true, false, cond, nat_le, nat_lt, ◌==◌, ◌&&◌, List, [], ◌∷◌, ◌++◌, length, map, Option, Some, None, Ok, Err, refl, sym, ap, subst, ◌∙◌, append_assoc, arith}
-use Rattle.std.proofs.lemmas.Bool.{and_parts, leb-true, le-leb, leb-false, and_from, ltb-true, ltb-false}
-use Rattle.std.proofs.lemmas.Bool.Decides.{nat_tests}
-use Rattle.std.proofs.lemmas.List.{append-nil}
+use Rattle.std.proofs.Common.{rules, inr, ◌≡◌, ℕ, zero, suc, Bool, true, false, cond, List, [], ◌∷◌, ◌++◌, Option, Some, None, Ok, Err, refl, sym, ap, subst, ◌∙◌, arith}
 use Rattle.c_tree.specs.declared.token.At.{At}
 use Rattle.c_tree.specs.declared.syntax.TypeWords.{TypeWords}
-use Rattle.c_tree.specs.declared.syntax.TypeWords.TheVariants as words
-use Rattle.c_tree.specs.declared.syntax.BinaryOperator.{BinaryOperator}
-use Rattle.c_tree.specs.declared.syntax.BinaryOperator.TheVariants as binary_
-use Rattle.c_tree.specs.declared.syntax.AssignOperator.{AssignOperator}
-use Rattle.c_tree.specs.declared.syntax.AssignOperator.TheVariants as assign_
-use Rattle.c_tree.specs.declared.syntax.UnaryOperator.{UnaryOperator}
-use Rattle.c_tree.specs.declared.syntax.UnaryOperator.TheVariants as unary_
-use Rattle.c_tree.specs.declared.syntax.StepOperator.{StepOperator}
-use Rattle.c_tree.specs.declared.syntax.StepOperator.TheVariants as step_
 use Rattle.c_tree.specs.declared.syntax.Expr.{Expr}
-use Rattle.c_tree.specs.declared.syntax.Expr.TheVariants as tree
-use Rattle.c_tree.specs.declared.syntax.Expr.TheOpen.{Expr-F, Comma, Assign, Conditional, Binary, Cast, Unary, Before, After, Name, Element, Call, Number, Character, Paren}
 use Rattle.c_grammar.specs.declared.sign.Sign.{Sign}
 use Rattle.c_grammar.specs.declared.sign.Sign.TheVariants as sign
-use Rattle.c_grammar.specs.Words.{Word, a_name, a_number, a_character, a_sign, sign_of_word, Lexeme}
-use Rattle.c_grammar.specs.Operators.{precedence, binary_sign, assign_sign, unary_sign, step_sign}
-use Rattle.c_grammar.specs.Phrases.{Leaf, leaf, Said, Part, sub, stands, is_at, same_place, entry, behind, leaves_of, leaves_at, all_fit, marks_of, commas, the_sign, operator}
-use Rattle.c_grammar.specs.Grammar.{about, expression, type, assign}
-use Rattle.c_grammar.specs.Spelling.{Stands}
-use Rattle.c_reading.specs.Parsers.{Trouble, Wrong, Deep, Out, same, Read, Parser, ◌>>=◌, ◌>>◌, and_then, pure, wrong, out, peek, word_at, place_at, sign_at, eat, expect, more, deeper, counted, phrase}
+use Rattle.c_grammar.specs.Words.{Word, a_sign, sign_of_word, Lexeme}
+use Rattle.c_grammar.specs.Phrases.{behind}
+use Rattle.c_grammar.specs.Grammar.{about}
+use Rattle.c_reading.specs.Parsers.{Wrong, Deep, Out, same, Read, Parser, ◌>>=◌, ◌>>◌, and_then, pure, place_at, sign_at, eat, expect}
 use Rattle.c_reading.specs.Expressions as r
 use Rattle.c_reading.specs.Trees as q
-use Rattle.c_parser.proofs.Asked.{place_of, type_of, joined}
-use Rattle.c_tree.specs.declared.syntax.Size.{Size}
-use Rattle.c_tree.specs.declared.syntax.Size.TheVariants as size
-use Rattle.c_tree.specs.declared.syntax.Initialiser.{Initialiser}
-use Rattle.c_tree.specs.declared.syntax.Initialiser.TheVariants as initialiser
-use Rattle.c_tree.specs.declared.syntax.Item.{Item}
+use Rattle.c_parser.proofs.Asked.{place_of, type_of}
 use Rattle.c_tree.specs.declared.syntax.Return.{Return}
 use Rattle.c_tree.specs.declared.syntax.Return.TheVariants as gives
-use Rattle.c_tree.specs.declared.syntax.Parameter.{Parameter}
 use Rattle.c_tree.specs.declared.syntax.Parameters.{Parameters}
-use Rattle.c_tree.specs.declared.syntax.Parameters.TheVariants as parameters
-use Rattle.c_tree.specs.declared.syntax.Declaration.{Declaration}
 use Rattle.c_tree.specs.declared.syntax.Declaration.TheVariants as declaration
 use Rattle.c_reading.specs.Declarations as d
 use Rattle.c_reading.specs.declared.declarations.Opening.{Opening}
 use Rattle.c_reading.specs.declared.declarations.Opening.TheVariants as opening_
-use Rattle.c_reading.specs.Parsers.{name, name_by, name_if_any, name_if_any_by}
 use Rattle.c_tree.specs.declared.syntax.Start.{Start}
 use Rattle.c_tree.specs.declared.syntax.Start.TheVariants as start
 use Rattle.c_tree.specs.declared.syntax.Statement.{Statement}
 use Rattle.c_tree.specs.declared.syntax.Statement.TheVariants as tree_
 use Rattle.c_tree.specs.declared.syntax.External.{External}
 use Rattle.c_tree.specs.declared.syntax.External.TheVariants as external
-use Rattle.c_tree.specs.declared.syntax.Syntax.{Syntax}
 use Rattle.c_reading.specs.Statements as st
 use Rattle.c_parser.proofs.Machine as m
 use Rattle.c_parser.proofs.Machine.{State, operand, have, want, got, Under, Use, step, run, Outcome, Next, goes, moved, at_end, hole, first, spot, outer, op_of, takes, push, close_use, use_hole, is_block, inside, add, maybe_behind, start_behind, for_test, for_next, Home, Naming, Heading, home_nesting, conclude, header, declaring, either, is_sign}
-use Rattle.c_parser.proofs.StatComplete.{after_block}
-use Rattle.c_parser.proofs.Reached.{word_is}
-use Rattle.c_parser.proofs.Sim.{Stop, stop_takes, Sim, sim_then, sim_as, sim_weaker, Took, sim_eat, sim_wrong, same_run, sign_is, word_at_is, place_is, sim_expect, sim_more, Got, inner, outside, Reads, read_reads}
-use Rattle.c_parser.proofs.DeclSim.{is_no_sign, is_a_sign, use_step, sim_choice, expected_sim, Starts, declaration_sim, openings_sim, opened_by, header_end}
+use Rattle.c_parser.proofs.Sim.{Stop, Sim, sim_then, sim_as, sim_weaker, Took, sim_eat, same_run, sign_is, place_is, sim_expect, Got, inner, outside, read_reads}
+use Rattle.c_parser.proofs.DeclSim.{is_no_sign, is_a_sign, use_step, expected_sim, Starts, declaration_sim, openings_sim, opened_by, header_end}
 
 -- ---- blocks
 
@@ -500,6 +470,7 @@ module _ (T : ℕ → Bool) where
     by_statement us n ts nn pl x is = expression_sim us n ts nn pl (λ w t e. ap (λ y. m.on_statement t.at t.word y us) (e ∙ is))
 
     one_sim : (us : List Under) (n : ℕ) (ts : List Lexeme) → n ≡ inside us → Plain us ts → Sim T ((st.statements_step T b S).one n ts) (run T ts (want us)) (λ x. got x us) (λ x k vs. Took T n k)
+    unfolding st.statement_at
     one_sim us n ts nn pl = sim_then T (st.statement_by T b S (place_at ts) (sign_at ts) (suc n) ts) _ (run T ts (want us)) (λ x. got x us) Nothing (λ x. got x us) (λ x k vs. Took T n k)
         (by_statement us (suc n) ts (ap suc nn) pl (sign_at ts) refl)
         (λ x k vs g. (refl, record { nesting = refl }))
@@ -555,30 +526,16 @@ module _ (T : ℕ → Bool) where
             sim_weaker_state : Sim T (S.one n ts) (run T ts (want (unders c ss))) (λ x. got x (unders c ss)) (λ x k vs. Took T n k) → Sim T (S.one n ts) (run T ts (want (unders c ss))) (λ x. want (unders c (ss ++ x ∷ []))) (λ x k vs. Took T n k)
             sim_weaker_state h = restate (S.one n ts) (run T ts (want (unders c ss))) (λ x. got x (unders c ss)) (λ x. want (unders c (ss ++ x ∷ []))) (λ x k vs. Took T n k) (λ x vs. same_run T (got x (unders c ss)) (want (unders c (ss ++ x ∷ []))) vs refl (λ t rest l. settles c ss x t)) h
 
-    abbrev after_item : Open_block → List Statement → Option Statement → State
-    after_item c ss None = closed c ss
-    after_item c ss (Some x) = want (unders c (ss ++ x ∷ []))
-
-    next_item_sim : (c : Open_block) (ss : List Statement) (n : ℕ) (ts : List Lexeme) → n ≡ nest c → Sim T (st.next_item T b S n ts) (run T ts (want (unders c ss))) (after_item c ss) (λ x k vs. Took T n k)
-    unfolding st.next_item
-    next_item_sim c ss n ts nn = by_sign (same (sign_at ts) sign.RightBrace) refl
-      where
-        by_sign : (e : Bool) → same (sign_at ts) sign.RightBrace ≡ e → Sim T ((cond e (eat T >> pure None) (st.block_item T b S >>= (λ x. pure (Some x)))) n ts) (run T ts (want (unders c ss))) (after_item c ss) (λ x k vs. Took T n k)
-        by_sign true is = sim_then T (eat T n ts) _ (run T ts (want (unders c ss))) (λ x. closed c ss) (λ x k vs. Took T n k) (after_item c ss) (λ x k vs. Took T n k)
-            (sim_eat T (want (unders c ss)) (closed c ss) n ts refl (λ t rest l. item_step c ss t ∙ ap (λ x. m.on_item t.at t.word x (unders c ss)) (sign_is T ts t rest sign.RightBrace l (same_true the_type (search rules) (sign_at ts) sign.RightBrace is)) ∙ closes_block c ss t.at t.word ∙ ap (λ k. goes k (closed c ss)) (sym nn)))
-            (λ x k vs g. (refl, g))
-        by_sign false is = sim_then T (st.block_item T b S n ts) _ (run T ts (want (unders c ss))) (λ x. want (unders c (ss ++ x ∷ []))) (λ x k vs. Took T n k) (after_item c ss) (λ x k vs. Took T n k)
-            (block_item_sim c ss n ts nn is)
-            (λ x k vs g. (refl, g))
-
     rest_sim : (c : Open_block) (ss : List Statement) (n : ℕ) (ts : List Lexeme) → n ≡ nest c → Sim T ((st.statements_step T b S).rest ss n ts) (run T ts (want (unders c ss))) (closed c) Nothing
-    rest_sim c ss n ts nn = sim_then T (st.next_item T b S n ts) (st.continued T b S ss) (run T ts (want (unders c ss))) (after_item c ss) (λ x k vs. Took T n k) (closed c) Nothing
-        (next_item_sim c ss n ts nn)
-        onward
+    rest_sim c ss n ts nn = by_sign (same (sign_at ts) sign.RightBrace) refl
       where
-        onward : (o : Option Statement) (k : ℕ) (vs : List Lexeme) → Took T n k → Sim T (st.continued T b S ss o k vs) (run T vs (after_item c ss o)) (closed c) Nothing
-        onward None k vs g = (refl, tt)
-        onward (Some x) k vs g = S_reads.rest c (ss ++ x ∷ []) k vs (g.nesting ∙ nn)
+        by_sign : (e : Bool) → same (sign_at ts) sign.RightBrace ≡ e → Sim T ((cond e (eat T >> pure ss) (st.block_item T b S >>= (λ x. S.rest (ss ++ x ∷ [])))) n ts) (run T ts (want (unders c ss))) (closed c) Nothing
+        by_sign true is = sim_then T (eat T n ts) _ (run T ts (want (unders c ss))) (λ x. closed c ss) (λ x k vs. Took T n k) (closed c) Nothing
+            (sim_eat T (want (unders c ss)) (closed c ss) n ts refl (λ t rest l. item_step c ss t ∙ ap (λ x. m.on_item t.at t.word x (unders c ss)) (sign_is T ts t rest sign.RightBrace l (same_true the_type (search rules) (sign_at ts) sign.RightBrace is)) ∙ closes_block c ss t.at t.word ∙ ap (λ k. goes k (closed c ss)) (sym nn)))
+            (λ x k vs g. (refl, tt))
+        by_sign false is = sim_then T (st.block_item T b S n ts) _ (run T ts (want (unders c ss))) (λ x. want (unders c (ss ++ x ∷ []))) (λ x k vs. Took T n k) (closed c) Nothing
+            (block_item_sim c ss n ts nn is)
+            (λ x k vs g. S_reads.rest c (ss ++ x ∷ []) k vs (g.nesting ∙ nn))
 
     pub step_stats : Stat_reads (st.statements_step T b S)
     step_stats = record { one = one_sim; rest = rest_sim }
@@ -643,34 +600,14 @@ module _ (T : ℕ → Bool) where
       }))
       (λ o k vs g. sim_weaker T _ _ (λ x. m.program (ps ++ x ∷ [])) _ (λ x j ws. Took T n j) (λ x j ws h. record { nesting = h.nesting ∙ g.nesting }) (part_sim b ps o k vs (g.nesting ∙ nn)))
 
-  record Parts (us : List Lexeme) : Type 0 where
-    end_next : same (sign_at us) sign.End ≡ true
-
-  abbrev after_part : List External → Option External → State
-  after_part ps None = m.program ps
-  after_part ps (Some x) = m.program (ps ++ x ∷ [])
-
-  abbrev Part_next : Option External → ℕ → List Lexeme → Type 0
-  Part_next None k us = same (sign_at us) sign.End ≡ true
-  Part_next (Some x) k us = k ≡ 0
-
-  next_part_sim : (b : ℕ) (ps : List External) (n : ℕ) (ts : List Lexeme) → n ≡ 0 → Sim T (st.next_part T b n ts) (run T ts (m.program ps)) (after_part ps) Part_next
-  unfolding st.next_part st.external
-  next_part_sim b ps n ts nn = by_sign (same (sign_at ts) sign.End) refl
-    where
-      by_sign : (c : Bool) → same (sign_at ts) sign.End ≡ c → Sim T ((cond c (pure None) (st.external T b >>= (λ x. pure (Some x)))) n ts) (run T ts (m.program ps)) (after_part ps) Part_next
-      by_sign true is = (refl, is)
-      by_sign false is = sim_then T (st.external_by T b (place_at ts) (sign_at ts) n ts) _ (run T ts (m.program ps)) (λ x. m.program (ps ++ x ∷ [])) (λ x k vs. Took T n k) (after_part ps) Part_next
-          (external_sim b ps n ts nn is (sign_at ts) refl)
-          (λ x k vs g. (refl, g.nesting ∙ nn))
-
   pub parts_sim : (b : ℕ) (ps : List External) (n : ℕ) (ts : List Lexeme) → n ≡ 0 → Sim T (st.parts T b ps n ts) (run T ts (m.program ps)) (λ xs. m.program xs) (λ xs k us. same (sign_at us) sign.End ≡ true)
-  unfolding st.parts
+  unfolding st.parts st.external
   parts_sim zero ps n ts nn = tt
-  parts_sim (suc b) ps n ts nn = sim_then T (st.next_part T b n ts) (st.joined T ps (st.parts T b)) (run T ts (m.program ps)) (after_part ps) Part_next (λ xs. m.program xs) (λ xs k us. same (sign_at us) sign.End ≡ true)
-      (next_part_sim b ps n ts nn)
-      (λ o k vs g. onward o k vs g (λ x e. parts_sim b (ps ++ x ∷ []) k vs e))
+  parts_sim (suc b) ps n ts nn = by_sign (λ x k vs e. parts_sim b (ps ++ x ∷ []) k vs e) (same (sign_at ts) sign.End) refl
     where
-      onward : (o : Option External) (k : ℕ) (vs : List Lexeme) → Part_next o k vs → ((x : External) → k ≡ 0 → Sim T (st.parts T b (ps ++ x ∷ []) k vs) (run T vs (m.program (ps ++ x ∷ []))) (λ xs. m.program xs) (λ xs k us. same (sign_at us) sign.End ≡ true)) → Sim T (st.joined T ps (st.parts T b) o k vs) (run T vs (after_part ps o)) (λ xs. m.program xs) (λ xs k us. same (sign_at us) sign.End ≡ true)
-      onward None k vs g h = (refl, g)
-      onward (Some x) k vs g h = h x g
+      by_sign : ((x : External) (k : ℕ) (vs : List Lexeme) → k ≡ 0 → Sim T (st.parts T b (ps ++ x ∷ []) k vs) (run T vs (m.program (ps ++ x ∷ []))) (λ xs. m.program xs) (λ xs k us. same (sign_at us) sign.End ≡ true))
+          → (c : Bool) → same (sign_at ts) sign.End ≡ c → Sim T ((cond c (pure ps) (st.external T b >>= (λ x. st.parts T b (ps ++ x ∷ [])))) n ts) (run T ts (m.program ps)) (λ xs. m.program xs) (λ xs k us. same (sign_at us) sign.End ≡ true)
+      by_sign more_ true is = (refl, is)
+      by_sign more_ false is = sim_then T (st.external_by T b (place_at ts) (sign_at ts) n ts) _ (run T ts (m.program ps)) (λ x. m.program (ps ++ x ∷ [])) (λ x k vs. Took T n k) (λ xs. m.program xs) (λ xs k us. same (sign_at us) sign.End ≡ true)
+          (external_sim b ps n ts nn is (sign_at ts) refl)
+          (λ x k vs g. more_ x k vs (g.nesting ∙ nn))

@@ -1,9 +1,8 @@
 -- A step of the machine over an expression or a declaration keeps what the words read so far are.
 use denote.Enum.Bare.{same_true}
 use Rattle.c_grammar.specs.contracts.sign.Sign.{the_type}
-use Rattle.std.proofs.Common.{rules, ◌≡◌, ℕ, ℤ, zero, suc, ◌+◌, ◌<◌, ◌≤◌, Bool, true, false, cond, nat_le, ◌==◌, ◌&&◌, List, [], ◌∷◌, ◌++◌, length, map, Option, Some, None, Ok, Err, refl, sym, ap, subst, ◌∙◌, append_assoc, arith}
-use Rattle.std.proofs.lemmas.Bool.{and_parts, leb-true, le-leb, leb-false, and_from}
-use Rattle.std.proofs.lemmas.Bool.Decides.{nat_tests}
+use Rattle.std.proofs.Common.{rules, ◌≡◌, ℕ, suc, ◌+◌, ◌≤◌, Bool, true, false, cond, nat_le, ◌&&◌, List, [], ◌∷◌, ◌++◌, map, Option, Some, None, refl, sym, ap, subst, ◌∙◌, arith}
+use Rattle.std.proofs.lemmas.Bool.{and_parts, leb-true, and_from}
 use Rattle.std.proofs.lemmas.List.{append-nil}
 use Rattle.c_tree.specs.declared.token.At.{At}
 use Rattle.c_tree.specs.declared.syntax.TypeWords.{TypeWords}
@@ -17,47 +16,35 @@ use Rattle.c_tree.specs.declared.syntax.Size.TheVariants as size
 use Rattle.c_tree.specs.declared.syntax.Initialiser.{Initialiser}
 use Rattle.c_tree.specs.declared.syntax.Initialiser.TheVariants as initialiser
 use Rattle.c_tree.specs.declared.syntax.Item.{Item}
-use Rattle.c_tree.specs.declared.syntax.Return.{Return}
-use Rattle.c_tree.specs.declared.syntax.Return.TheVariants as gives
-use Rattle.c_tree.specs.declared.syntax.Parameter.{Parameter}
-use Rattle.c_tree.specs.declared.syntax.Parameters.{Parameters}
-use Rattle.c_tree.specs.declared.syntax.Parameters.TheVariants as parameters
 use Rattle.c_tree.specs.declared.syntax.Declaration.{Declaration}
 use Rattle.c_tree.specs.declared.syntax.Declaration.TheVariants as declaration
 use Rattle.c_grammar.specs.declared.sign.Sign.{Sign}
 use Rattle.c_grammar.specs.declared.sign.Sign.TheVariants as sign
 use Rattle.c_grammar.specs.Words.{Word, a_name, a_number, a_character, a_sign, sign_of_word, Lexeme}
-use Rattle.c_grammar.specs.Operators.{precedence, binary_sign, assign_sign, unary_sign, step_sign, type_signs}
-use Rattle.c_grammar.specs.Phrases as m2
-use Rattle.c_grammar.specs.Phrases.{begins_at, name, some, Leaf, leaf, Said, Part, sub, stands, is_at, same_place, entry, behind, leaves_of, leaves_at, all_fit, open_, expr, item, piece, commas, node, phrase, each, the_sign, operator}
-use Rattle.c_grammar.specs.Grammar.{sized, initialised, last_comma, declarator, maybe_name, assign, signs, about, type, value, maybe, started, condition, constant, statement_part, braces, block, declared, statement, about_statement, returned, called, listed, parameter, part, program}
+use Rattle.c_grammar.specs.Operators.{precedence, binary_sign, assign_sign, step_sign}
+use Rattle.c_grammar.specs.Phrases.{begins_at, some, Leaf, leaf, Said, Part, stands, entry, behind, leaves_of, leaves_at, all_fit, open_, piece, commas, the_sign, operator}
+use Rattle.c_grammar.specs.Grammar.{sized, initialised, declarator, assign, about, type, maybe, started, condition, declared, about_statement, returned, listed}
 use Rattle.c_tree.specs.declared.syntax.Start.{Start}
 use Rattle.c_tree.specs.declared.syntax.Start.TheVariants as start
 use Rattle.c_tree.specs.declared.syntax.Statement.{Statement}
 use Rattle.c_tree.specs.declared.syntax.Statement.TheVariants as tree_
-use Rattle.c_tree.specs.declared.syntax.Statement.TheOpen as s
-use Rattle.c_tree.specs.declared.syntax.External.{External}
 use Rattle.c_tree.specs.declared.syntax.External.TheVariants as external
-use Rattle.c_tree.specs.declared.syntax.Syntax.{Syntax}
-use Rattle.c_grammar.specs.Spelling.{Stands}
-use Rattle.c_reading.specs.Parsers.{Wrong, Deep, same}
+use Rattle.c_reading.specs.Parsers.{same}
 use Rattle.c_parser.proofs.Asked.{place_of, type_of, joined}
 use Rattle.c_parser.proofs.Machine as m
 use Rattle.c_parser.proofs.Machine.{Frame, State, operand, have, named, opened, casting, want, got, Use, Under, Home, Naming, Heading, step, Next, goes, hole, opens, entered, spot, first, outer, use_hole, Op, op_of, own, left, is_op, takes, push, fill, shut, offer, close_use, close_block, is_block, inside, add, maybe_behind, start_behind, for_test, for_next, home_nesting, conclude, either, expect, item_of, item_end, value_after}
-use Rattle.c_parser.proofs.Trees.{at_of, said_name, said_element, said_call, said_number, said_character, said_paren, said_after, told_block, told_declared, told_evaluate, told_if, told_if_else, told_while, told_dowhile, told_for, told_switch, told_case, told_default, told_break, told_continue, told_return}
+use Rattle.c_parser.proofs.Trees.{said_name, said_call, said_number, said_character, said_after, told_declared, told_evaluate, told_dowhile, told_return}
 use Rattle.c_parser.proofs.Runs.{lex}
 use Rattle.c_parser.proofs.ExprRuns.{prec_high}
-use Rattle.c_parser.proofs.DeclComplete.{joined_other}
 use Rattle.c_parser.proofs.Fill.{trail_last, trail_snoc, fit_append, at_self, lead_first, hole_low, stands_it, text_have, Ok_have, filled_text, filled_ok}
-use Rattle.c_parser.proofs.Text.{trail, argument, object, a_parameter, items, tops, text_unders, ok_items, ok_unders, text_home, ok_home, text_type, text_naming, ok_naming, text_heading, text_use, ok_use, place, begun, text_frames, ok_frames, low, lead, ending}
+use Rattle.c_parser.proofs.Text.{trail, argument, object, tops, text_unders, ok_unders, text_home, ok_home, text_type, text_naming, ok_naming, text_use, ok_use, text_frames, ok_frames, lead, ending}
 use denote.Enum.Bare.{same_true}
 use Rattle.c_grammar.specs.contracts.sign.Sign.{the_type}
 use Rattle.std.proofs.Common.{rules}
 use Rattle.c_grammar.specs.Operators.{binary_sign}
 use Rattle.c_parser.proofs.ExprRuns.{prec_low}
 use Rattle.c_parser.proofs.Fill.{trail_leaves}
-use Rattle.c_parser.proofs.Text.{begun_under}
-use Rattle.c_parser.proofs.Reached.{Taken, Pre, pre_as, pre_more, word_is, joined_sign, type_sign, type_no_other, type_snoc, type_at_snoc, type_then, type_at_then, returned_then, trail_pieces, comma_pieces, each_snoc, each_items, tops_snoc, tops_fit, items_snoc, items_fit, Stat_text, signed, text_header, Reached, Stepped}
+use Rattle.c_parser.proofs.Reached.{Taken, Pre, pre_as, pre_more, word_is, joined_sign, type_sign, type_no_other, type_snoc, type_then, type_at_then, trail_pieces, comma_pieces, tops_snoc, tops_fit, items_snoc, items_fit, Stat_text, signed, Reached, Stepped}
 
 -- ---- single facts
 

@@ -1,24 +1,17 @@
 -- The words that the machine has read in a state, and what the parts that it holds must be.
-use Rattle.std.specs.Prelude.{ℕ, suc, ◌+◌, ◌≡◌, ◌≤◌, List, [], ◌∷◌, ◌++◌, map, Bool, true, false, nat_le, Option, Some, None, if◌then◌else◌}
+use Rattle.std.specs.Prelude.{ℕ, suc, ◌+◌, ◌≡◌, ◌≤◌, List, [], ◌∷◌, ◌++◌, map, Bool, true, false, Some, None, if◌then◌else◌}
 use Rattle.c_tree.specs.declared.token.At.{At}
 use Rattle.c_tree.specs.declared.syntax.TypeWords.{TypeWords}
 use Rattle.c_tree.specs.declared.syntax.Expr.{Expr}
-use Rattle.c_tree.specs.declared.syntax.Expr.TheVariants as tree
-use Rattle.c_tree.specs.declared.syntax.Size.{Size}
-use Rattle.c_tree.specs.declared.syntax.Size.TheVariants as size
 use Rattle.c_tree.specs.declared.syntax.Item.{Item}
-use Rattle.c_tree.specs.declared.syntax.Return.{Return}
 use Rattle.c_tree.specs.declared.syntax.Parameter.{Parameter}
-use Rattle.c_tree.specs.declared.syntax.Parameters.{Parameters}
-use Rattle.c_tree.specs.declared.syntax.Start.{Start}
 use Rattle.c_tree.specs.declared.syntax.Statement.{Statement}
 use Rattle.c_tree.specs.declared.syntax.External.{External}
-use Rattle.c_grammar.specs.declared.sign.Sign.{Sign}
 use Rattle.c_grammar.specs.declared.sign.Sign.TheVariants as sign
-use Rattle.c_grammar.specs.Words.{Word, a_name, a_sign, Lexeme}
+use Rattle.c_grammar.specs.Words.{a_name, a_sign}
 use Rattle.c_grammar.specs.Operators.{precedence, binary_sign, assign_sign, unary_sign, step_sign}
-use Rattle.c_grammar.specs.Phrases.{Leaf, leaf, Said, Part, the, mark, sub, open_, expr, item, piece, some, commas, stands, entry, behind, leaves_of, leaves_at, all_fit, the_sign, operator, name, each}
-use Rattle.c_grammar.specs.Grammar.{about, type, assign, constant, value, maybe, started, condition, sized, declarator, returned, parameter, listed, called, about_statement, part}
+use Rattle.c_grammar.specs.Phrases.{Leaf, leaf, Said, Part, sub, open_, expr, item, piece, stands, entry, behind, leaves_of, leaves_at, all_fit, the_sign, operator, name, each}
+use Rattle.c_grammar.specs.Grammar.{about, type, constant, maybe, started, condition, sized, declarator, returned, parameter, listed, about_statement, part}
 use Rattle.c_parser.proofs.Asked.{place_of}
 use Rattle.c_parser.proofs.Machine.{Frame, unary, before, cast, binary, question, colon, comma, paren, element, arguments, Under, in_block, in_if, in_else, in_while, in_do, in_for, in_switch, in_case, in_default, in_body, Home, at_top, at_block, at_start, Naming, Heading, Use, evaluate, if_, while_, switch_, start_, return_, case_, do_, test_, next_, size_, value_, list_, home_nesting, start_behind, maybe_behind, inside, outer, use_hole, hole, opens, entered, spot, first}
 use Rattle.c_parser.proofs.Machine as m

@@ -1,16 +1,15 @@
 -- Whole lists of tokens.
-use Rattle.std.proofs.Common.{◌⊎◌, inl, inr, ◌≡◌, ℕ, zero, suc, ◌+◌, ◌<◌, ◌≤◌, Bool, true, false, cond, nat_le, ◌&&◌, List, [], ◌∷◌, ◌++◌, length, map, Option, Some, None, Ok, Err, Result, refl, sym, ap, subst, ◌∙◌, append_assoc, arith}
+use Rattle.std.proofs.Common.{◌⊎◌, inl, inr, ◌≡◌, ℕ, suc, ◌<◌, ◌≤◌, Bool, true, false, cond, nat_le, List, [], ◌∷◌, ◌++◌, length, map, Option, Some, None, Ok, Err, refl, sym, ap, subst, ◌∙◌, append_assoc, arith}
 use Rattle.std.specs.Prelude.{All}
 use Rattle.std.proofs.lemmas.List.{append-nil}
 use Rattle.std.proofs.lemmas.List.Elements.{All-cons}
-use Rattle.std.proofs.lemmas.Bool.{and_parts, leb-true, le-leb, leb-false}
+use Rattle.std.proofs.lemmas.Bool.{leb-true, le-leb, leb-false}
 use Rattle.c_tree.specs.declared.token.At.{At}
 use Rattle.c_tree.specs.declared.syntax.Syntax.{Syntax}
 use Rattle.c_tree.specs.declared.syntax.External.{External}
-use Rattle.c_grammar.specs.declared.sign.Sign.{Sign}
 use Rattle.c_grammar.specs.declared.sign.Sign.TheVariants as sign
-use Rattle.c_grammar.specs.Words.{Word, a_sign, sign_of_word, Lexeme}
-use Rattle.c_grammar.specs.Phrases.{Leaf, leaf, Said}
+use Rattle.c_grammar.specs.Words.{Word, a_sign, Lexeme}
+use Rattle.c_grammar.specs.Phrases.{Leaf}
 use Rattle.c_grammar.specs.Grammar.{program}
 use Rattle.c_grammar.specs.Spelling.{Stands, Spells, Spelled, Shallow, Begins, FirstBad, FirstDeep, Ended, leaves_of_program}
 use Rattle.c_reading.specs.Parsers.{Wrong, Deep, Out}
@@ -26,9 +25,9 @@ use Rattle.c_tree.specs.declared.syntax.Statement.{Statement}
 use Rattle.c_tree.specs.declared.syntax.Statement.TheVariants as tree_
 use Rattle.c_parser.proofs.Asked.{joined}
 use Rattle.c_parser.proofs.Machine.{Frame, Use, Under, fill, offer, close_use, State, step, run, Outcome, Next, moved, at_end}
-use Rattle.c_parser.proofs.Runs.{Meets, Met, lex, going}
+use Rattle.c_parser.proofs.Runs.{Meets, lex, going}
 use Rattle.c_parser.proofs.StatComplete.{complete_program}
-use Rattle.c_parser.proofs.Reached.{Taken, Spelt, Pre, Reached, Stepped}
+use Rattle.c_parser.proofs.Reached.{Taken, Spelt, Reached, Stepped}
 use Rattle.c_parser.proofs.StatSteps.{stepped}
 use Rattle.c_parser.proofs.Ends.{Done, done, each_end}
 use Rattle.c_parser.proofs.Text.{tops}

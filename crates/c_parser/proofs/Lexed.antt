@@ -26,9 +26,9 @@ is_open _ = true
 entry_open : List ℕ × Sign → Bool
 entry_open entry = is_open entry.1
 
-chosen_open : (b : Bool) (one other : Sign) → is_open one ≡ true → is_open other ≡ true → is_open (cond b one other) ≡ true
-chosen_open true one other p q = p
-chosen_open false one other p q = q
+chosen_open : (b : Bool) (one two : Sign) → is_open one ≡ true → is_open two ≡ true → is_open (cond b one two) ≡ true
+chosen_open true one two p q = p
+chosen_open false one two p q = q
 
 table_open : (table : List (List ℕ × Sign)) (text : List ℕ) → list_all entry_open table ≡ true → is_open (sign_in table text) ≡ true
 unfolding is_open entry_open

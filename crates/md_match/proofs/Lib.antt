@@ -1,0 +1,3 @@
+pub mod Leaves
+pub mod Size
+pub mod Pick

@@ -8,6 +8,7 @@
 
 mod acceptance;
 mod fitting;
+pub mod laws;
 mod search;
 mod slots;
 

@@ -5,3 +5,4 @@ pub mod Filling
 pub mod Ways
 pub mod Sound
 pub mod Whole
+pub mod Choices

@@ -4,7 +4,10 @@ ghost use Rattle.std.specs.Prelude.{◌≡◌, ℕ, Some, None, Option};
 ghost use Rattle.rtl_tree.specs.Trees.{Tree};
 ghost use Rattle.md_match.specs.Slots.{Fit, Slots};
 ghost use Rattle.md_match.specs.Find.{find};
-ghost use Rattle.md_match.specs.Ways.{Choice, Found, Way};
+ghost use Rattle.std.specs.Prelude.{List};
+ghost use Rattle.rtl_tree.specs.Moves.{Move};
+ghost use Rattle.md_match.specs.Searches.{Marks, Search, accept, match_all};
+ghost use Rattle.md_match.specs.Ways.{Choice, Choices, Found, FoundAll, Way, Ways};
 
 /// The search for a tree gives what the first way gives with which it goes on, and nothing exactly where no way goes on.
 #[tactic(auto, using(crate::proofs::Ways::find_some, crate::proofs::Ways::find_none))]
@@ -12,4 +15,12 @@ pub fn first_way_is_found()
     ensures found { (f : Fit) (r e : Tree) (k : Slots → Option Slots) (s u : Slots) → find f r e k s ≡ Some u → Found f r e k s u }
     ensures none { (f : Fit) (r e : Tree) (k : Slots → Option Slots) (s : Slots) → find f r e k s ≡ None
         → (j : Choice) (v : Slots) → Way f r e j s v → k v ≡ None }
+{}
+
+/// The search for a transfer gives what the first list of choices gives that is accepted, and nothing exactly where none is.
+#[tactic(auto, using(crate::proofs::Choices::match_some, crate::proofs::Choices::match_none))]
+pub fn first_choices_are_found()
+    ensures found { (t : Search) (es : List Move) (used : Marks) (s u : Slots) → match_all t es used s ≡ Some u → FoundAll t es used s u }
+    ensures none { (t : Search) (es : List Move) (used : Marks) (s : Slots) → match_all t es used s ≡ None
+        → (cs : Choices) (left : Marks) (u : Slots) → Ways t es cs used s left u → accept t left u ≡ None }
 {}

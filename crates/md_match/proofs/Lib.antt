@@ -6,3 +6,5 @@ pub mod Ways
 pub mod Sound
 pub mod Whole
 pub mod Choices
+pub mod Binding
+pub mod Accepted

@@ -1,5 +1,5 @@
 -- When a row with a binding does a transfer.
-use Rattle.std.specs.Prelude.{◌≡◌, ℕ, ◌<◌, ◌≤◌, Bool, true, false, ◌||◌, ◌==◌, List, [], ◌∷◌, length, set, slice_get, Option, Some}
+use Rattle.std.specs.Prelude.{◌≡◌, ℕ, ◌<◌, ◌≤◌, Bool, true, false, ◌||◌, ◌==◌, List, [], ◌∷◌, length, set, slice_get, take, Option, Some, None}
 use Rattle.rtl_tree.specs.Trees.{Tree, Read, Load, Unary, Binary, AnyNumber, AnyName}
 use Rattle.rtl_tree.specs.Moves.{Move}
 use Rattle.rtl_tree.specs.Likeness.{IsAlike}
@@ -81,3 +81,14 @@ pub record IsRow (holes : List Hole) (row : List Move) : Type 0 where
   pub few_moves : length row ≤ 6
   pub places : (j : ℕ) (r : Move) → slice_get row j ≡ Some r → HasHolesBelow (length holes) (goal_tree r.to)
   pub values : (j : ℕ) (r : Move) → slice_get row j ≡ Some r → HasHolesBelow (length holes) r.value
+
+-- the values of holes that are all known
+abbrev pub known : List (Option Bound) → List Bound
+known [] = []
+known (Some v ∷ s) = v ∷ known s
+known (None ∷ s) = known s
+
+-- what is found: the binding, and which assignments of the row take one of the transfer's
+pub record IsDone (w g : ℕ) (holes : List Hole) (idle : Move → Bool) (row es : List Move) (u : List (Option Bound)) : Type 0 where
+  pub marks : Marks
+  pub does : Does w g holes idle row es (known (take (length holes) u)) marks

@@ -1,6 +1,6 @@
 //! Laws of the search.
 
-ghost use Rattle.std.specs.Prelude.{◌≡◌, ℕ, Some, None, Option};
+ghost use Rattle.std.specs.Prelude.{◌≡◌, true, ℕ, Some, None, Option};
 ghost use Rattle.rtl_tree.specs.Trees.{Tree};
 ghost use Rattle.md_match.specs.Slots.{Fit, Slots};
 ghost use Rattle.md_match.specs.Find.{find};
@@ -23,4 +23,9 @@ pub fn first_choices_are_found()
     ensures found { (t : Search) (es : List Move) (used : Marks) (s u : Slots) → match_all t es used s ≡ Some u → FoundAll t es used s u }
     ensures none { (t : Search) (es : List Move) (used : Marks) (s : Slots) → match_all t es used s ≡ None
         → (cs : Choices) (left : Marks) (u : Slots) → Ways t es cs used s left u → accept t left u ≡ None }
+{}
+
+#[tactic(auto, using(crate::proofs::Binding::occurs_same, crate::proofs::Accepted::traps_all, crate::proofs::Sound::way_sound, crate::proofs::Whole::way_whole))]
+pub fn trial()
+    ensures { true ≡ true }
 {}

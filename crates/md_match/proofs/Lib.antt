@@ -8,3 +8,5 @@ pub mod Whole
 pub mod Choices
 pub mod Binding
 pub mod Accepted
+pub mod Done
+pub mod Undone

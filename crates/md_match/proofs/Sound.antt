@@ -110,7 +110,7 @@ unfolding put
 puts f h (Some v) s t p = record { value = v; is = refl; put = put_at f h v s t (slice_get s h) refl p }
 puts f h None s t p = absurd (clash t p)
 
-leaf_is : (e : Tree) (v : Bound) → bound_of e ≡ Some v → leaf_of v ≡ e
+pub leaf_is : (e : Tree) (v : Bound) → bound_of e ≡ Some v → leaf_of v ≡ e
 leaf_is (Number n) v p = let x : Num n ≡ v = cc in subst (λ (b : Bound). leaf_of b ≡ Number n) x refl
 leaf_is (Symbol n) v p = let x : Sym n ≡ v = cc in subst (λ (b : Bound). leaf_of b ≡ Symbol n) x refl
 leaf_is (CodeLabel n) v p = let x : Label n ≡ v = cc in subst (λ (b : Bound). leaf_of b ≡ CodeLabel n) x refl
@@ -125,7 +125,7 @@ pub record Sound (f : Fit) (r e : Tree) (s t : Slots) : Type 0 where
   pub filled : IsFilled f t r
   pub fit : IsFit f t
 
-alike_own : (a : Tree) → Alike a a
+pub alike_own : (a : Tree) → Alike a a
 alike_own (Load w a) = (refl, alike_own a)
 alike_own (Unary o a) = (refl, alike_own a)
 alike_own (Binary o a b) = (refl, inl (alike_own a, alike_own b))
@@ -206,7 +206,7 @@ grows_on s m t g h = record { still = λ i v p. h.still i v (g.still i v p) }
 held_on : (f : Fit) (m t : Slots) (h : ℕ) → Grows m t → IsHeld f m h → IsHeld f t h
 held_on f m t h g k = record { value = k.value; held = g.still h k.value k.held; fitting = k.fitting }
 
-filled_on : (f : Fit) (m t : Slots) → Grows m t → (r : Tree) → IsFilled f m r → IsFilled f t r
+pub filled_on : (f : Fit) (m t : Slots) → Grows m t → (r : Tree) → IsFilled f m r → IsFilled f t r
 filled_on f m t g (Read (RegisterHole h)) k = held_on f m t h g k
 filled_on f m t g (AnyNumber h) k = held_on f m t h g k
 filled_on f m t g (AnyName h) k = held_on f m t h g k
@@ -219,7 +219,7 @@ hole_fill : (f : Fit) (m t : Slots) (h : ℕ) (hole : Tree) → Grows m t → Is
   → filled_with hole (slice_get m h) ≡ filled_with hole (slice_get t h)
 hole_fill f m t h hole g k = let x = k.held in let y = g.still h k.value k.held in ap (filled_with hole) cc
 
-keeps_fill : (f : Fit) (m t : Slots) → Grows m t → (r : Tree) → IsFilled f m r → fill m r ≡ fill t r
+pub keeps_fill : (f : Fit) (m t : Slots) → Grows m t → (r : Tree) → IsFilled f m r → fill m r ≡ fill t r
 keeps_fill f m t g (Read (RegisterHole h)) k = hole_fill f m t h (Read (RegisterHole h)) g k
 keeps_fill f m t g (AnyNumber h) k = hole_fill f m t h (AnyNumber h) g k
 keeps_fill f m t g (AnyName h) k = hole_fill f m t h (AnyName h) g k
@@ -228,7 +228,7 @@ keeps_fill f m t g (Unary o a) k = ap (Unary o) (keeps_fill f m t g a k)
 keeps_fill f m t g (Binary o a b) k = let x = keeps_fill f m t g a k.0 in let y = keeps_fill f m t g b k.1 in cc
 keeps_fill f m t g _ k = refl
 
-alike_on : (f : Fit) (m t : Slots) → Grows m t → (r e : Tree) → IsFilled f m r → Alike (fill m r) e → Alike (fill t r) e
+pub alike_on : (f : Fit) (m t : Slots) → Grows m t → (r e : Tree) → IsFilled f m r → Alike (fill m r) e → Alike (fill t r) e
 alike_on f m t g r e k h = subst (λ (x : Tree). Alike x e) (keeps_fill f m t g r k) h
 
 pub way_sound : (f : Fit) (r e : Tree) (i : Choice) (s t : Slots) → IsFit f s → Way f r e i s t → Sound f r e s t

@@ -25,7 +25,7 @@ pub fn first_choices_are_found()
         → (cs : Choices) (left : Marks) (u : Slots) → Ways t es cs used s left u → accept t left u ≡ None }
 {}
 
-#[tactic(auto, using(crate::proofs::Binding::occurs_same, crate::proofs::Accepted::traps_all, crate::proofs::Sound::way_sound, crate::proofs::Whole::way_whole))]
+#[tactic(auto, using(crate::proofs::Done::found_done, crate::proofs::Undone::none_done))]
 pub fn trial()
     ensures { true ≡ true }
 {}

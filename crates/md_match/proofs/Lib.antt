@@ -10,3 +10,4 @@ pub mod Binding
 pub mod Accepted
 pub mod Done
 pub mod Undone
+pub mod Exact

@@ -1,12 +1,15 @@
 //! Laws of the search.
 
-ghost use Rattle.std.specs.Prelude.{◌≡◌, true, ℕ, Some, None, Option};
+ghost use Rattle.std.specs.Prelude.{◌≡◌, length, ℕ, Some, None, Option};
 ghost use Rattle.rtl_tree.specs.Trees.{Tree};
-ghost use Rattle.md_match.specs.Slots.{Fit, Slots};
+ghost use Rattle.md_rows.specs.declared.row.Hole.{Hole};
+ghost use Rattle.md_rows.specs.declared.instance.Bound.{Bound};
+ghost use Rattle.md_match.specs.Does.{Does, IsDone, IsRow};
+ghost use Rattle.md_match.specs.Slots.{Fit, Slots, fit_of, no_slots};
 ghost use Rattle.md_match.specs.Find.{find};
 ghost use Rattle.std.specs.Prelude.{List};
 ghost use Rattle.rtl_tree.specs.Moves.{Move};
-ghost use Rattle.md_match.specs.Searches.{Marks, Search, accept, match_all};
+ghost use Rattle.md_match.specs.Searches.{Marks, Search, accept, is_idle, match_all, no_marks};
 ghost use Rattle.md_match.specs.Ways.{Choice, Choices, Found, FoundAll, Way, Ways};
 
 /// The search for a tree gives what the first way gives with which it goes on, and nothing exactly where no way goes on.
@@ -25,7 +28,13 @@ pub fn first_choices_are_found()
         → (cs : Choices) (left : Marks) (u : Slots) → Ways t es cs used s left u → accept t left u ≡ None }
 {}
 
+/// What the search for a transfer finds makes the row do it, and where it finds nothing no binding makes the row do it.
 #[tactic(auto, using(crate::proofs::Done::found_done, crate::proofs::Undone::none_done))]
-pub fn trial()
-    ensures { true ≡ true }
+pub fn search_is_exact()
+    ensures found { (w g : ℕ) (holes : List Hole) (t : Search) (es : List Move) (u : Slots)
+        → t.fit ≡ fit_of w g holes → t.count ≡ length holes → IsRow holes t.row → match_all t es no_marks no_slots ≡ Some u
+        → IsDone w g holes (is_idle t.flags t.barred) t.row es u }
+    ensures none { (w g : ℕ) (holes : List Hole) (t : Search) (es : List Move)
+        → t.fit ≡ fit_of w g holes → t.count ≡ length holes → IsRow holes t.row → match_all t es no_marks no_slots ≡ None
+        → (b : List Bound) (marks : Marks) → Does w g holes (is_idle t.flags t.barred) t.row es b marks → ⊥ }
 {}

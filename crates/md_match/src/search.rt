@@ -7,6 +7,12 @@ ghost use Rattle.md_match.specs.Find.{find};
 ghost use Rattle.md_match.specs.Searches.{accept as accept_by, match_all, no_marks, one};
 ghost use Rattle.md_match.specs.Tasks.{rest, IsTask, search_of};
 
+ghost use Rattle.std.specs.Prelude.{List, MatchOption};
+ghost use Rattle.md_rows.specs.declared.instance.Bound.{Bound};
+ghost use Rattle.md_match.specs.Searches.{Marks};
+ghost use Rattle.md_match.specs.Does.{Does, IsDone};
+ghost use Rattle.md_match.specs.Tasks.{idle_of};
+
 use crate::acceptance::{Demands, is_accepted};
 use crate::slots::{Marks, NO_MARKS, NO_SLOTS, Slots, compare, is_same_binary, is_same_unary, is_same_width};
 use md_rows::Hole;
@@ -136,10 +142,14 @@ fn pair(t: &Task, r: &Assign, e: &Assign, then: &Todo, slots: Slots) -> Option<S
     }
 }
 
-/// What stands in the holes of the row where it does the transfer, by the first list of choices.
+/// What stands in the holes of the row where it does the transfer, by the first list of choices. None comes exactly where no binding
+/// makes the row do it. The time can be exponential in the depth of the trees.
 pub fn first_match(t: &Task) -> Option<Slots>
     requires { IsTask t.now }
-    ensures { result ≡ match_all (search_of t.now) t.now.goal.now no_marks no_slots }
+    ensures value { result ≡ match_all (search_of t.now) t.now.goal.now no_marks no_slots }
+    ensures does { MatchOption result
+        ((b : List Bound) (marks : Marks) → ¬ Does t.now.bits t.now.general t.now.holes.now (idle_of t.now) t.now.row.now t.now.goal.now b marks)
+        (λ slots. IsDone t.now.bits t.now.general t.now.holes.now (idle_of t.now) t.now.row.now t.now.goal.now slots) }
 {
     assign(t, 0, NO_MARKS, NO_SLOTS)
 }

@@ -30,19 +30,22 @@ pub fn is_same_bound(v: Bound, u: Bound) -> bool
     v == u
 }
 
-pub(crate) fn is_same_width(v: Width, w: Width) -> bool
+/// Whether two widths are one.
+pub fn is_same_width(v: Width, w: Width) -> bool
     ensures { result ≡ same_width v w }
 {
     v == w
 }
 
-pub(crate) fn is_same_unary(o: UnOp, p: UnOp) -> bool
+/// Whether two operators are one.
+pub fn is_same_unary(o: UnOp, p: UnOp) -> bool
     ensures { result ≡ same_unary o p }
 {
     o == p
 }
 
-pub(crate) fn is_same_binary(o: BinOp, p: BinOp) -> bool
+/// Whether two operators are one.
+pub fn is_same_binary(o: BinOp, p: BinOp) -> bool
     ensures { result ≡ same_binary o p }
 {
     o == p
@@ -61,8 +64,10 @@ fn value_of(e: &Expr) -> Option<Bound>
     }
 }
 
+/// The slots once a value stands in a hole. None where there is no such hole, where another value stands in it already, or where the
+/// value doesn't fit.
 #[tactic(auto, unfolding(crate::specs::Slots::put))]
-fn put(bits: u32, general: u64, holes: &[Hole], place: u8, bound: Option<Bound>, slots: Slots) -> Option<Slots>
+pub fn put(bits: u32, general: u64, holes: &[Hole], place: u8, bound: Option<Bound>, slots: Slots) -> Option<Slots>
     requires size { IsWordSize bits }
     ensures { result ≡ put_in_slots (fit_of bits general holes.now) place bound slots }
 {

@@ -94,16 +94,22 @@ abbrev pub minus_word : Frame → ℕ
 minus_word m = 2 ^ m.bits - word_bytes m
 
 -- a call puts the counter in the link register, or below the top of the stack where there is none
+abbrev pub link_call : ℕ → Lab → List Move
+link_call z l = set_cell (Hard z) (Read Pc) ++ set_cell Pc (CodeLabel l)
+
+abbrev pub stack_call : Tree → Cell → Lab → List Move
+stack_call below s l = store_at Full below (Read Pc) ++ (set_cell s below ++ set_cell Pc (CodeLabel l))
+
 abbrev pub call_moves : Frame → Option ℕ → Lab → List Move
-call_moves m (Some z) l = set_cell (Hard z) (Read Pc) ++ set_cell Pc (CodeLabel l)
-call_moves m None l =
-    store_at Full (stack_plus m (minus_word m)) (Read Pc)
-    ++ set_cell (Hard m.stack) (stack_plus m (minus_word m)) ++ set_cell Pc (CodeLabel l)
+call_moves m (Some z) l = link_call z l
+call_moves m None l = stack_call (stack_plus m (minus_word m)) (Hard m.stack) l
+
+abbrev pub stack_return : Tree → Cell → ℕ → List Move
+stack_return top s n = set_cell Pc (LoadTree Full top) ++ set_cell s (Binary Add top (Number n))
 
 abbrev pub return_moves : Frame → Option ℕ → List Move
 return_moves m (Some z) = set_cell Pc (Read (Hard z))
-return_moves m None =
-    set_cell Pc (LoadTree Full (stack_of m)) ++ set_cell (Hard m.stack) (stack_plus m (word_bytes m))
+return_moves m None = stack_return (stack_of m) (Hard m.stack) (word_bytes m)
 
 -- the link register is saved at a place of memory, and set from it
 abbrev pub saved : Option ℕ → Tree → List Move

@@ -5,12 +5,12 @@ ghost use Rattle.rtl_word.specs.Words.{IsWordSize};
 ghost use Rattle.md_match.specs.Slots.{no_slots};
 ghost use Rattle.md_match.specs.Searches.{match_all, no_marks};
 ghost use Rattle.md_shapes.specs.Drawings.{drawn_tree, frame_of, IsSubject, search_of};
-ghost use Rattle.rtl_tree.specs.Trees.{Binary, CodeLabel, Read, Unary};
+ghost use Rattle.rtl_tree.specs.Trees.{Binary, CodeLabel, Number, Read, Unary};
 ghost use Rattle.rtl_tree.specs.declared.cells.Cell.TheVariants.{Flag, Pc};
 ghost use Rattle.rtl_tree.specs.declared.cells.Lab.TheVariants.{Block};
 ghost use Rattle.rtl_tree.specs.declared.expressions.UnOp.TheVariants.{Test};
-ghost use Rattle.rtl_tree.specs.declared.expressions.BinOp.TheVariants.{When};
-ghost use Rattle.md_shapes.specs.Shapes.{call_moves, does_example, has_link, restored, return_moves, saved, set_cell, store_at};
+ghost use Rattle.rtl_tree.specs.declared.expressions.BinOp.TheVariants.{Add, When};
+ghost use Rattle.md_shapes.specs.Shapes.{call_moves, does_example, has_link, link_call, restored, return_moves, saved, set_cell, stack_call, stack_return, store_at};
 
 use crate::drawing::{Drawn, DrawnMove, DrawnPlace};
 use crate::patterns::Pattern;
@@ -70,38 +70,73 @@ fn branches_by_flag(t: &Subject, relation: Rel, flag: u8) -> bool
     branches(t, &Drawn::Un(UnOp::Test(relation), &flag))
 }
 
+fn calls_by_link(t: &Subject, link: u8) -> bool
+    requires { IsSubject t.now }
+    ensures { result ≡ is_some (match_all (search_of t.now) (link_call link (Block 0)) no_marks no_slots) }
+{
+    let to = DrawnPlace::Cell(Cell::Hard(link));
+    let save = DrawnMove { to, value: Drawn::Cell(Cell::Pc) };
+    let to = DrawnPlace::Cell(Cell::Pc);
+    let jump = DrawnMove { to, value: Drawn::Label(LABEL) };
+    let goal = [save, jump];
+    does(t, &goal)
+}
+
+fn calls_below<'a>(t: &Subject, stack: Cell, below: &'a Drawn<'a>) -> bool
+    requires { IsSubject t.now }
+    ensures { result ≡ is_some (match_all (search_of t.now) (stack_call (drawn_tree below.now) stack (Block 0)) no_marks no_slots) }
+{
+    let to = DrawnPlace::Mem(Width::Full, below);
+    let push = DrawnMove { to, value: Drawn::Cell(Cell::Pc) };
+    let to = DrawnPlace::Cell(stack);
+    let lower = DrawnMove { to, value: *below };
+    let to = DrawnPlace::Cell(Cell::Pc);
+    let jump = DrawnMove { to, value: Drawn::Label(LABEL) };
+    let goal = [push, lower, jump];
+    does(t, &goal)
+}
+
+fn calls_by_stack(t: &Subject, stack: Cell) -> bool
+    requires { IsSubject t.now }
+    ensures { result ≡ is_some (match_all (search_of t.now) (stack_call (Binary Add (Read stack) (Number (2 ^ t.now.bits - t.now.bits / 8))) stack (Block 0)) no_marks no_slots) }
+{
+    let top = Drawn::Cell(stack);
+    let step = Drawn::Number(minus_word_bytes(t.bits));
+    calls_below(t, stack, &Drawn::Bin(BinOp::Add, &top, &step))
+}
+
 fn calls(t: &Subject, frame: Frame) -> bool
     requires { IsSubject t.now }
     ensures { result ≡ is_some (match_all (search_of t.now) (call_moves (frame_of t.now.bits frame) frame.link (Block 0)) no_marks no_slots) }
 {
-    let pc = Drawn::Cell(Cell::Pc);
-    let jump = DrawnMove { to: DrawnPlace::Cell(Cell::Pc), value: Drawn::Label(LABEL) };
-    if let Some(link) = frame.link {
-        let save = DrawnMove { to: DrawnPlace::Cell(Cell::Hard(link)), value: pc };
-        return does(t, &[save, jump]);
+    match frame.link {
+        Some(link) => calls_by_link(t, link),
+        None => calls_by_stack(t, Cell::Hard(frame.stack)),
     }
-    let stack = Cell::Hard(frame.stack);
+}
+
+fn returns_by_stack(t: &Subject, stack: Cell) -> bool
+    requires { IsSubject t.now }
+    ensures { result ≡ is_some (match_all (search_of t.now) (stack_return (Read stack) stack (t.now.bits / 8)) no_marks no_slots) }
+{
     let top = Drawn::Cell(stack);
-    let step = Drawn::Number(minus_word_bytes(t.bits));
-    let below = Drawn::Bin(BinOp::Add, &top, &step);
-    let push = DrawnMove { to: DrawnPlace::Mem(Width::Full, &below), value: pc };
-    let lower = DrawnMove { to: DrawnPlace::Cell(stack), value: below };
-    does(t, &[push, lower, jump])
+    let to = DrawnPlace::Cell(Cell::Pc);
+    let back = DrawnMove { to, value: Drawn::Mem(Width::Full, &top) };
+    let step = Drawn::Number(t.bits / 8);
+    let to = DrawnPlace::Cell(stack);
+    let raise = DrawnMove { to, value: Drawn::Bin(BinOp::Add, &top, &step) };
+    let goal = [back, raise];
+    does(t, &goal)
 }
 
 fn returns(t: &Subject, frame: Frame) -> bool
     requires { IsSubject t.now }
     ensures { result ≡ is_some (match_all (search_of t.now) (return_moves (frame_of t.now.bits frame) frame.link) no_marks no_slots) }
 {
-    if let Some(link) = frame.link {
-        return sets(t, Cell::Pc, Drawn::Cell(Cell::Hard(link)));
+    match frame.link {
+        Some(link) => sets(t, Cell::Pc, Drawn::Cell(Cell::Hard(link))),
+        None => returns_by_stack(t, Cell::Hard(frame.stack)),
     }
-    let stack = Cell::Hard(frame.stack);
-    let top = Drawn::Cell(stack);
-    let back = DrawnMove { to: DrawnPlace::Cell(Cell::Pc), value: Drawn::Mem(Width::Full, &top) };
-    let step = Drawn::Number(t.bits / 8);
-    let raise = DrawnMove { to: DrawnPlace::Cell(stack), value: Drawn::Bin(BinOp::Add, &top, &step) };
-    does(t, &[back, raise])
 }
 
 fn saves_link(t: &Subject, link: Option<u8>, place: &Drawn) -> bool

@@ -1,0 +1,4 @@
+pub mod Lines
+pub mod Ranges
+pub mod Numbers
+pub mod Covers

@@ -5,6 +5,5 @@
 //! number stands in the row where one of the shape's could.
 #![tactic(auto)]
 
+pub mod laws;
 mod ranges;
-
-pub use ranges::takes_run;

@@ -1,3 +1,4 @@
 pub mod Changes
 pub mod Runs
 pub mod Wide
+pub mod Counts

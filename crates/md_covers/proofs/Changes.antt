@@ -186,14 +186,14 @@ takes_changed d row b Q f _ _ _ q (taken e es j r used left is free a rest) =
     taken (changed_move d e) (map (changed_move d) es) j r used left is free (alike_move_changed d b r e (f.each j r e is q.0 a) a)
       (takes_changed d row b Q f (set used j true) left es q.1 rest)
 
-other_mark : (used : Marks) (j k : ℕ) → (k ≡ j → ⊥) → is_marked used k ≡ false → is_marked (set used j true) k ≡ false
+pub other_mark : (used : Marks) (j k : ℕ) → (k ≡ j → ⊥) → is_marked used k ≡ false → is_marked (set used j true) k ≡ false
 other_mark [] j k n e = e
 other_mark (u ∷ us) zero zero n e = absurd (n refl)
 other_mark (u ∷ us) zero (suc k) n e = e
 other_mark (u ∷ us) (suc j) zero n e = e
 other_mark (u ∷ us) (suc j) (suc k) n e = other_mark us j k (λ q. n (ap suc q)) e
 
-same_or_not : (j h : ℕ) → (j ≡ h) ⊎ (j ≡ h → ⊥)
+pub same_or_not : (j h : ℕ) → (j ≡ h) ⊎ (j ≡ h → ⊥)
 same_or_not zero zero = inl refl
 same_or_not zero (suc h) = inr (λ e. omega arith)
 same_or_not (suc j) zero = inr (λ e. omega arith)

@@ -279,7 +279,7 @@ pub record IsLess (x t : Tree) : Type 0 where
 less_own : (x t : Tree) → x ≡ t → IsLess x t
 less_own x t e = let p : literals x ≡ literals t = ap literals e in record { fewer = omega (arith, p); sum = λ q. ap total e }
 
-less_left : (x a c : Tree) (o : ℕ) → IsLess x a → (literals x ≤ literals a + literals c) × (literals x ≡ literals a + literals c → total x ≡ total a + total c)
+pub less_left : (x a c : Tree) (o : ℕ) → IsLess x a → (literals x ≤ literals a + literals c) × (literals x ≡ literals a + literals c → total x ≡ total a + total c)
 less_left x a c o k =
     let f = k.fewer in
     (omega (arith, f), λ q.
@@ -287,7 +287,7 @@ less_left x a c o k =
       let same : literals x ≡ literals a = omega (arith, f, q) in
       let i = k.sum same in let j = no_total c none in omega (arith, i, j)))
 
-less_right : (x a c : Tree) (o : ℕ) → IsLess x c → (literals x ≤ literals a + literals c) × (literals x ≡ literals a + literals c → total x ≡ total a + total c)
+pub less_right : (x a c : Tree) (o : ℕ) → IsLess x c → (literals x ≤ literals a + literals c) × (literals x ≡ literals a + literals c → total x ≡ total a + total c)
 less_right x a c o k =
     let f = k.fewer in
     (omega (arith, f), λ q.

@@ -2,3 +2,4 @@ pub mod Changes
 pub mod Runs
 pub mod Wide
 pub mod Counts
+pub mod Ranged

@@ -3,3 +3,4 @@ pub mod Runs
 pub mod Wide
 pub mod Counts
 pub mod Ranged
+pub mod Patterns

@@ -4,3 +4,4 @@ pub mod Wide
 pub mod Counts
 pub mod Ranged
 pub mod Patterns
+pub mod Whole

@@ -257,7 +257,7 @@ node_open w g holes row m n place r is d s t x k p q = none_open x (by (literals
         let n1 = s.sum in let n2 = t.sum in
         absurd (d (omega (arith, y, z, c1, c2, n1, n2)))
 
-row_traps : (holes : List Hole) (t : Tree) → IsRowTree holes t → AllTraps (IsRowTree holes) t
+pub row_traps : (holes : List Hole) (t : Tree) → IsRowTree holes t → AllTraps (IsRowTree holes) t
 row_traps holes (Load w a) k = (k, row_traps holes a k)
 row_traps holes (Unary o a) k = ((λ e. k), row_traps holes a k)
 row_traps holes (Binary o a b) k = ((λ e. k), row_traps holes a k.0, row_traps holes b k.1)

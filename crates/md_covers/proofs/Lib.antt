@@ -5,3 +5,4 @@ pub mod Counts
 pub mod Ranged
 pub mod Patterns
 pub mod Whole
+pub mod Normal

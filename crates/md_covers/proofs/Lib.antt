@@ -6,3 +6,4 @@ pub mod Ranged
 pub mod Patterns
 pub mod Whole
 pub mod Normal
+pub mod RegisterBits

@@ -10,14 +10,10 @@ use Rattle.rtl_tree.specs.declared.cells.Lab.{Lab}
 use Rattle.md_shapes.specs.declared.patterns.Pattern.{Pattern}
 use Rattle.md_shapes.specs.declared.patterns.Pattern.TheVariants.{Copy, SetNumber, SetSymbol, Load, Store, LoadByte, StoreByte, LoadHome, StoreHome, StoreTop, ReadStack, MoveStack, SetStack, Operate, Complement, Clear, Jump, Branch, Compare, BranchByFlag, Call, Return, SaveLink, RestoreLink, TakeInput, PutOutput, Halt, ReadResult, SetResult, ExtendByte}
 use Rattle.md_shapes.specs.Shapes.{Frame, Open, shape_moves, example, has_transfer, has_link, stack_plus, saved, restored, call_moves, return_moves}
-use Rattle.md_covers.specs.Numbers.{Run, IsOfSome, runs_of, words, multiples, negatives, end_of}
+use Rattle.md_covers.specs.Numbers.{Run, IsOfSome, has_runs, runs_of, words, multiples, negatives, end_of}
 use Rattle.md_covers.proofs.Changes.{Change, changed_move, Each}
 use Rattle.md_covers.proofs.Wide.{IsRun, AreRuns}
 use Rattle.md_covers.proofs.Ranged.{OneMove, is_flag_goal}
-
-abbrev pub has_numbers : List Run → Bool
-has_numbers [] = false
-has_numbers (r ∷ rs) = true
 
 abbrev pub put_cell : Cell → Cell → Cell → Cell
 put_cell a b (Temp zero) = a
@@ -51,7 +47,7 @@ return_moved m p (Some z) = refl
 return_moved m p None = refl
 
 pub moved : (w : ℕ) (m : Frame) (pattern : Pattern) (p : Open) (n : ℕ)
-  → shape_moves m pattern p ≡ map (changed_move (to_open (has_numbers (runs_of w pattern)) p)) (shape_moves m pattern (example n))
+  → shape_moves m pattern p ≡ map (changed_move (to_open (has_runs (runs_of w pattern)) p)) (shape_moves m pattern (example n))
 moved w m Copy p n = refl
 moved w m SetNumber p n = refl
 moved w m SetSymbol p n = refl
@@ -95,7 +91,7 @@ restored_one m n (Some z) e =
     record { move = record { to = ToCell (Hard z); value = LoadTree _ (stack_plus m n) }; is = refl; flagless = refl; one = refl; sum = omega arith }
 restored_one m n None e = let k : false ≡ true = e in cc
 
-pub one_move : (w : ℕ) (m : Frame) (pattern : Pattern) → has_transfer m pattern ≡ true → has_numbers (runs_of w pattern) ≡ true
+pub one_move : (w : ℕ) (m : Frame) (pattern : Pattern) → has_transfer m pattern ≡ true → has_runs (runs_of w pattern) ≡ true
   → (n : ℕ) → OneMove (shape_moves m pattern (example n)) n
 one_move w m SetNumber t h n =
     record { move = record { to = ToCell (Temp 0); value = Number n }; is = refl; flagless = refl; one = refl; sum = omega arith }

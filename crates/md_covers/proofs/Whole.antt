@@ -20,12 +20,12 @@ use Rattle.md_match.specs.Searches.{Marks, goal_tree, traps_pass, is_flag_of, is
 use Rattle.md_match.specs.Does.{IsAlikeMove, IsMarked, AllTraps, Does}
 use Rattle.md_shapes.specs.declared.patterns.Pattern.{Pattern}
 use Rattle.md_shapes.specs.Shapes.{Frame, Open, shape_moves, example, has_transfer}
-use Rattle.md_covers.specs.Numbers.{Run, IsOf, IsOfSome, IsNumberOf, runs_of, first_number, takes_runs, is_open, is_open_move}
+use Rattle.md_covers.specs.Numbers.{Run, IsOf, IsOfSome, IsNumberOf, has_runs, runs_of, first_number, takes_runs, is_open, is_open_move}
 use Rattle.md_covers.specs.Covers.{IsRowTree, IsRowMove, IsDoneBySome, IsGeneral, IsOpenOf}
 use Rattle.md_covers.proofs.Changes.{Change, changed_bound, changed_move, IsFixed, IsFixedMove, Each, FixesTaken, Carries, traps_two, does_changed}
 use Rattle.md_covers.proofs.Wide.{IsRun, AreRuns, takes_some, first_of}
 use Rattle.md_covers.proofs.Ranged.{OneMove, DoneAt, TakesAll, is_flag_goal, flag_goal, flags_apart, flag_open, other_open, traps_open, row_traps, covers_takes}
-use Rattle.md_covers.proofs.Patterns.{has_numbers, put_cell, put_number, to_open, moved, one_move, are_runs}
+use Rattle.md_covers.proofs.Patterns.{put_cell, put_number, to_open, moved, one_move, are_runs}
 
 -- leaves of the row that stay
 
@@ -177,10 +177,10 @@ one_flagless es n o = subst (Each NoFlag) (sym o.is) (o.flagless, tt)
 
 by_runs : (w g : ℕ) (holes : List Hole) (row : List Move) (m : Frame) (pattern : Pattern) (rs : List Run) → runs_of w pattern ≡ rs → AreRuns w rs
   → has_transfer m pattern ≡ true → ((j : ℕ) (r : Move) → slice_get row j ≡ Some r → IsRowMove holes r)
-  → (has_numbers rs ≡ true → TakesAll w holes row rs)
+  → (has_runs rs ≡ true → TakesAll w holes row rs)
   → IsDoneBySome w g holes row (shape_moves m pattern (example (first_number rs)))
   → (p : Open) → IsGeneral g p.a → IsGeneral g p.b → IsNumberOf rs p.number
-  → (b : Bool) → has_numbers rs ≡ b → IsDoneBySome w g holes row (map (changed_move (to_open b p)) (shape_moves m pattern (example (first_number rs))))
+  → (b : Bool) → has_runs rs ≡ b → IsDoneBySome w g holes row (map (changed_move (to_open b p)) (shape_moves m pattern (example (first_number rs))))
 by_runs w g holes row m pattern [] e k t kinds all done p a b n true h = let q : false ≡ true = h in cc
 by_runs w g holes row m pattern (r ∷ rs) e k t kinds all done p a b n false h = let q : true ≡ false = h in cc
 by_runs w g holes row m pattern [] e k t kinds all done p a b n false h =
@@ -192,7 +192,7 @@ by_runs w g holes row m pattern [] e k t kinds all done p a b n false h =
     }
 by_runs w g holes row m pattern (r ∷ rs) e k t kinds all done p a b n true h =
     let es = shape_moves m pattern (example r.first) in
-    let one = one_move w m pattern t (ap has_numbers e) r.first in
+    let one = one_move w m pattern t (ap has_runs e) r.first in
     record {
       binding = map (changed_bound (to_open true p)) done.binding; marks = done.marks;
       does = does_changed w g holes (is_idle 255 g) (to_open true p) row es done.binding done.marks NoFlag
@@ -201,13 +201,13 @@ by_runs w g holes row m pattern (r ∷ rs) e k t kinds all done p a b n true h =
 
 pub from_example : (w g : ℕ) (holes : List Hole) (row : List Move) (m : Frame) (pattern : Pattern) → IsWordSize w
   → has_transfer m pattern ≡ true → ((j : ℕ) (r : Move) → slice_get row j ≡ Some r → IsRowMove holes r)
-  → (has_numbers (runs_of w pattern) ≡ true → TakesAll w holes row (runs_of w pattern))
+  → (has_runs (runs_of w pattern) ≡ true → TakesAll w holes row (runs_of w pattern))
   → IsDoneBySome w g holes row (shape_moves m pattern (example (first_number (runs_of w pattern))))
   → (p : Open) → IsOpenOf w g pattern p → IsDoneBySome w g holes row (shape_moves m pattern p)
 from_example w g holes row m pattern z t kinds all done p o =
     subst (IsDoneBySome w g holes row) (sym (moved w m pattern p (first_number (runs_of w pattern))))
       (by_runs w g holes row m pattern (runs_of w pattern) refl (are_runs w z pattern) t kinds all done p o.a o.b o.number
-        (has_numbers (runs_of w pattern)) refl)
+        (has_runs (runs_of w pattern)) refl)
 
 -- and back
 
@@ -224,18 +224,18 @@ to_example w g holes row m pattern z each =
 takes_by : (w g : ℕ) (holes : List Hole) (row : List Move) (m : Frame) (pattern : Pattern) → has_transfer m pattern ≡ true
   → ((j : ℕ) (r : Move) → slice_get row j ≡ Some r → IsRowMove holes r)
   → ((p : Open) → IsOpenOf w g pattern p → IsDoneBySome w g holes row (shape_moves m pattern p))
-  → (rs : List Run) → runs_of w pattern ≡ rs → AreRuns w rs → has_numbers rs ≡ true → TakesAll w holes row rs
+  → (rs : List Run) → runs_of w pattern ≡ rs → AreRuns w rs → has_runs rs ≡ true → TakesAll w holes row rs
 takes_by w g holes row m pattern t kinds each [] e k h = let q : false ≡ true = h in cc
 takes_by w g holes row m pattern t kinds each (r ∷ rs) e k h =
     covers_takes w g holes row r rs k kinds (λ n i. record {
       es = shape_moves m pattern (example n);
-      shape = one_move w m pattern t (ap has_numbers e) n;
+      shape = one_move w m pattern t (ap has_runs e) n;
       by = each (example n) (record { a = tt; b = tt; number = subst (λ x. IsNumberOf x n) (sym e) i })
     })
 
 pub to_takes : (w g : ℕ) (holes : List Hole) (row : List Move) (m : Frame) (pattern : Pattern) → IsWordSize w → has_transfer m pattern ≡ true
   → ((j : ℕ) (r : Move) → slice_get row j ≡ Some r → IsRowMove holes r)
   → ((p : Open) → IsOpenOf w g pattern p → IsDoneBySome w g holes row (shape_moves m pattern p))
-  → has_numbers (runs_of w pattern) ≡ true → TakesAll w holes row (runs_of w pattern)
+  → has_runs (runs_of w pattern) ≡ true → TakesAll w holes row (runs_of w pattern)
 to_takes w g holes row m pattern z t kinds each h =
     takes_by w g holes row m pattern t kinds each (runs_of w pattern) refl (are_runs w z pattern) h

@@ -8,7 +8,7 @@ use Rattle.rtl_tree.specs.declared.cells.Cell.TheVariants.{Hard, Temp, Hole as R
 use Rattle.rtl_norm.specs.Transfers.{norm_moves}
 use Rattle.md_rows.specs.declared.description.Register.{Register}
 use Rattle.md_rows.specs.declared.description.Role.{Role}
-use Rattle.md_rows.specs.declared.description.Role.TheVariants.{General, Result, Stack, Link}
+use Rattle.md_rows.specs.declared.description.Role.TheVariants.{General, Result, Stack, Link, Other}
 use Rattle.md_rows.specs.declared.description.RawDescription.{RawDescription}
 use Rattle.md_rows.specs.declared.row.Row.{Row}
 use Rattle.md_rows.specs.declared.row.Hole.{Hole}
@@ -26,22 +26,18 @@ use Rattle.md_covers.specs.Lines.{longest_line}
 
 -- the registers of a description
 
-abbrev pub is_result : Role → Bool
-is_result Result = true
-is_result _ = false
+abbrev pub same_role : Role → Role → Bool
+same_role General General = true
+same_role Result Result = true
+same_role Stack Stack = true
+same_role Link Link = true
+same_role Other Other = true
+same_role _ _ = false
 
-abbrev pub is_stack : Role → Bool
-is_stack Stack = true
-is_stack _ = false
-
-abbrev pub is_link : Role → Bool
-is_link Link = true
-is_link _ = false
-
--- the number of the first register with such a role
-abbrev pub first_with : (Role → Bool) → List Register → Option ℕ
-first_with p [] = None
-first_with p (r ∷ rs) = if p r.role then Some r.number else first_with p rs
+-- the number of the first register with a role
+abbrev pub first_with : Role → List Register → Option ℕ
+first_with role [] = None
+first_with role (r ∷ rs) = if same_role r.role role then Some r.number else first_with role rs
 
 -- the bits of the general registers, whose numbers are below 64
 abbrev pub general_bit : Role → ℕ → ℕ
@@ -54,12 +50,12 @@ general_bits (r ∷ rs) = bit_or (general_bit r.role r.number) (general_bits rs)
 
 abbrev pub frame_with : RawDescription → Option ℕ → Option ℕ → Option Frame
 frame_with d (Some s) (Some q) =
-    Some (record { bits = d.word; stack = s; result = q; link = first_with is_link d.registers; memory = d.memory })
+    Some (record { bits = d.word; stack = s; result = q; link = first_with Link d.registers; memory = d.memory })
 frame_with d _ _ = None
 
 -- what a description fixes of the shapes
 abbrev pub frame_in : RawDescription → Option Frame
-frame_in d = frame_with d (first_with is_stack d.registers) (first_with is_result d.registers)
+frame_in d = frame_with d (first_with Stack d.registers) (first_with Result d.registers)
 
 -- a general register or a temporary
 abbrev pub IsGeneral : ℕ → Cell → Type 0

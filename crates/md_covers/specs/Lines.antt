@@ -40,12 +40,11 @@ abbrev pub bytes_after : List Register → List Hole → Bool → List Piece →
 bytes_after rs holes word [] = 0
 bytes_after rs holes word (p ∷ ps) = space_bytes (word && is_word p) + piece_bytes rs holes p + bytes_after rs holes (is_word p) ps
 
--- a space stands after the first piece, whatever follows
+-- a space stands after the first piece, whatever follows, and no other before the second
 abbrev pub line_bytes : List Register → List Hole → List Piece → ℕ
 line_bytes rs holes [] = 0
 line_bytes rs holes (p ∷ []) = piece_bytes rs holes p
-line_bytes rs holes (p ∷ (q ∷ qs)) =
-    piece_bytes rs holes p + 1 + piece_bytes rs holes q + bytes_after rs holes (is_word q) qs
+line_bytes rs holes (p ∷ (q ∷ qs)) = piece_bytes rs holes p + 1 + bytes_after rs holes false (q ∷ qs)
 
 -- with the tab before it
 abbrev pub longest_line : List Register → List Hole → List Piece → ℕ

@@ -52,6 +52,10 @@ abbrev pub IsNumberOf : List Run → ℕ → Type 0
 IsNumberOf [] n = Unit {0}
 IsNumberOf (r ∷ rs) n = IsOfSome (r ∷ rs) n
 
+abbrev pub has_runs : List Run → Bool
+has_runs [] = false
+has_runs (r ∷ rs) = true
+
 abbrev pub first_number : List Run → ℕ
 first_number [] = 0
 first_number (r ∷ rs) = r.first
@@ -60,11 +64,14 @@ first_number (r ∷ rs) = r.first
 abbrev pub end_of : Run → ℕ
 end_of r = r.first + (r.count - 1) * r.step
 
--- whether a number hole has each number of a run
+-- whether a number hole has each of the words a, a + step, .., z
+abbrev pub takes_between : ℕ → Hole → ℕ → ℕ → ℕ → Bool
+takes_between w (NumHole low high inverted) a z step =
+    cond inverted (run_test w low high (2 ^ w - 1 - z) (2 ^ w - 1 - a) step) (run_test w low high a z step)
+takes_between w hole a z step = true
+
 abbrev pub takes_run : ℕ → Hole → Run → Bool
-takes_run w (NumHole low high inverted) r =
-    cond inverted (run_test w low high (2 ^ w - 1 - end_of r) (2 ^ w - 1 - r.first) r.step) (run_test w low high r.first (end_of r) r.step)
-takes_run w hole r = true
+takes_run w hole r = takes_between w hole r.first (end_of r) r.step
 
 abbrev pub takes_runs : ℕ → Hole → List Run → Bool
 takes_runs w hole [] = true

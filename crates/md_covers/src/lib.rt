@@ -6,4 +6,8 @@
 #![tactic(auto)]
 
 pub mod laws;
+mod lines;
+mod numbers;
+mod openness;
 mod ranges;
+mod registers;

@@ -187,13 +187,15 @@ fn is_in_marked(row: &[Assign], used: &Marks, slots: &Slots, part: &Expr) -> boo
     false
 }
 
-fn can_unary_trap(operator: UnOp) -> bool
+/// Whether an operator can trap.
+pub fn can_unary_trap(operator: UnOp) -> bool
     ensures { result ≡ unary_traps operator }
 {
     matches!(operator, UnOp::Test(_))
 }
 
-fn can_binary_trap(operator: BinOp) -> bool
+/// Whether an operator can trap.
+pub fn can_binary_trap(operator: BinOp) -> bool
     ensures { result ≡ binary_traps operator }
 {
     match operator {

@@ -8,8 +8,8 @@ ghost use Rattle.md_match.specs.Slots.{fit_of};
 use md_rows::{Bound, Hole, number_of_word};
 use rtl_tree::Cell;
 
-// Whether a set, which has a bit for each of its members, has a member.
-pub(crate) fn has_bit(set: u64, member: u8) -> bool
+/// Whether a set, which has a bit for each of its members, has a member. A member is below 64.
+pub fn has_bit(set: u64, member: u8) -> bool
     ensures { result ≡ is_in set member }
 {
     member < 64 && set >> member & 1 == 1

@@ -12,8 +12,10 @@ pub mod laws;
 mod search;
 mod slots;
 
-pub use acceptance::{Demands, is_accepted, is_idle, names_none, occurs_filled};
-pub use fitting::{fits, fits_at};
+pub use acceptance::{
+    Demands, can_binary_trap, can_unary_trap, is_accepted, is_idle, names_none, occurs_filled,
+};
+pub use fitting::{fits, fits_at, has_bit};
 pub use search::{Task, first_match};
 pub use slots::{
     Marks, NO_MARKS, NO_SLOTS, Slots, is_same_binary, is_same_bound, is_same_unary, is_same_width, put,

@@ -7,3 +7,4 @@ pub mod Patterns
 pub mod Whole
 pub mod Normal
 pub mod RegisterBits
+pub mod Decide

@@ -2,3 +2,4 @@ pub mod Lines
 pub mod Ranges
 pub mod Numbers
 pub mod Covers
+pub mod Subjects

@@ -5,6 +5,7 @@
 //! number stands in the row where one of the shape's could.
 #![tactic(auto)]
 
+mod covering;
 pub mod laws;
 mod lines;
 mod numbers;

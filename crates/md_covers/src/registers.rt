@@ -1,7 +1,7 @@
 //! The registers of a description.
 
-ghost use Rattle.std.specs.Prelude.{◌≡◌, bit_or};
-ghost use Rattle.md_covers.specs.Covers.{first_with as first_by, frame_in as frame_of, frame_with, general_bit as bit_of, general_bits as bits_of, same_role};
+ghost use Rattle.std.specs.Prelude.{◌≡◌, bit_or, option_map};
+ghost use Rattle.md_covers.specs.Covers.{first_with as first_by, frame_in as frame_of, general_bit as bit_of, general_bits as bits_of, same_role};
 ghost use Rattle.md_shapes.specs.Drawings.{frame_of as frame_by};
 
 use md_rows::{RawDescription, Register, Role};
@@ -49,10 +49,14 @@ pub fn general_bits(registers: &[Register]) -> u64
 
 /// What a description fixes of the shapes, if it has a stack register and a result register.
 pub(crate) fn frame_in(d: &RawDescription) -> Option<Frame>
+    ensures { option_map (frame_by d.now.word) result ≡ frame_of d.now }
 {
     let registers = d.registers.as_slice();
-    let stack = first_with(Role::Stack, registers)?;
-    let result = first_with(Role::Result, registers)?;
+    let stack = first_with(Role::Stack, registers);
+    let result = first_with(Role::Result, registers);
     let link = first_with(Role::Link, registers);
-    Some(Frame { stack, result, link, memory: d.memory })
+    match (stack, result) {
+        (Some(stack), Some(result)) => Some(Frame { stack, result, link, memory: d.memory }),
+        _ => None,
+    }
 }

@@ -14,12 +14,13 @@ use Rattle.md_rows.specs.declared.instance.Bound.{Bound}
 use Rattle.md_rows.specs.Instances.{filled, AllFit}
 use Rattle.md_match.specs.Slots.{Slots, no_slots, Fit, bound_of, fit_of, put, put_in, put_slot, same_bound}
 use Rattle.md_match.specs.Find.{leaf}
-use Rattle.md_match.specs.Searches.{Marks, no_marks, is_marked, goal_tree, fill, Search, accept, is_accepted, is_idle, harmless, in_marked, others_pass, traps_pass, all_held, match_all, occurs_by, occurs_in_move}
+use Rattle.md_match.specs.Searches.{Marks, no_marks, is_marked, goal_tree, fill, Search, accept, is_accepted, is_idle, harmless, in_marked, others_pass, traps_pass, all_apart, all_held, match_all, occurs_by, occurs_in_move}
 use Rattle.md_match.specs.Ways.{Choice, Way, at_leaf, at_load, at_unary, straight, crossed, Choices, Ways, ended, next, FoundAll}
-use Rattle.md_match.specs.Does.{IsAlikeMove, Takes, all_taken, taken, has_hole, IsMarked, IsHoleOfMarked, IsPartOfMarked, AllTraps, Does, HasHolesBelow, IsRow, known, IsDone}
+use Rattle.md_match.specs.Does.{IsAlikeMove, Takes, all_taken, taken, has_hole, IsMarked, IsHoleOfMarked, IsPartOfMarked, AllTraps, Does, HasHolesBelow, IsRow, assigned, known, IsDone}
 use Rattle.md_match.proofs.Filling.{Alike, IsHeld, IsFilled, Grows, IsFit, to_alike}
 use Rattle.md_match.proofs.Sound.{Sound, get_same, get_other, same_or_not, grows_on, filled_on, alike_on, way_sound}
 use Rattle.md_match.proofs.Binding.{Holds, fill_filled, known_holds, known_at, known_length, taken_at, fit_all, occurs_same, none_held, or_true}
+use Rattle.md_match.proofs.Apart.{assigned_same, apart_pairs}
 use Rattle.md_match.proofs.Accepted.{Occurs, others_at, marked_occurs, all_traps}
 use Rattle.md_match.proofs.Choices.{match_some}
 
@@ -238,13 +239,17 @@ ways_slots t _ _ _ _ _ _ (next e es j r p v cs used s a b left u q free wp wv ws
 pub record Accepted (t : Search) (left : Marks) (u : Slots) : Type 0 where
   pub held : all_held (take t.count u) ≡ true
   pub others : others_pass (harmless (is_idle t.flags t.barred) (in_marked (fill u) t.row left)) t.row left ≡ true
+  pub apart : all_apart u t.row ≡ true
 
 pub accepted : (t : Search) (left : Marks) (to u : Slots) → accept t left to ≡ Some u → (to ≡ u) × Accepted t left to
 accepted t left to u e =
     let x = when (is_accepted t.count (is_idle t.flags t.barred) t.row left to) to u e in
+    let others = others_pass (harmless (is_idle t.flags t.barred) (in_marked (fill to) t.row left)) t.row left in
+    let rest = and_right (all_held (take t.count to)) (others && all_apart to t.row) x.0 in
     (x.1, record {
-      held = and_left (all_held (take t.count to)) (others_pass (harmless (is_idle t.flags t.barred) (in_marked (fill to) t.row left)) t.row left) x.0;
-      others = and_right (all_held (take t.count to)) (others_pass (harmless (is_idle t.flags t.barred) (in_marked (fill to) t.row left)) t.row left) x.0
+      held = and_left (all_held (take t.count to)) (others && all_apart to t.row) x.0;
+      others = and_left others (all_apart to t.row) rest;
+      apart = and_right others (all_apart to t.row) rest
     })
   where
     when : (c : Bool) (x t : Slots) → cond c (Some x) None ≡ Some t → (c ≡ true) × (x ≡ t)
@@ -291,7 +296,9 @@ done_by w g holes t es cs left u fit count row ws ok =
         bound = λ h l. (let x = holds.each h l in elim (ways_from t es cs no_marks no_slots left u ws moves h x.0 x.1) [
             inl y ↦ absurd (none_held h x.0 y)
           | inr y ↦ y
-          ])
+          ]);
+        different = apart_pairs u (assigned b) t.row
+          (λ j r e. assigned_same (length holes) u b holds r.to (row.places j r e)) ok.apart
       }
     }
   where

@@ -11,3 +11,4 @@ pub mod Accepted
 pub mod Done
 pub mod Undone
 pub mod Exact
+pub mod Apart

@@ -9,13 +9,14 @@ use Rattle.md_rows.specs.declared.row.Hole.{Hole}
 use Rattle.md_rows.specs.declared.instance.Bound.{Bound}
 use Rattle.md_rows.specs.Instances.{filled, AllFit}
 use Rattle.md_match.specs.Slots.{Slots, no_slots, Fit, fit_of}
-use Rattle.md_match.specs.Searches.{Marks, no_marks, is_marked, goal_tree, fill, Search, accept, is_accepted, is_idle, harmless, in_marked, others_pass, traps_pass, all_held, match_all, occurs_by, occurs_in_move}
+use Rattle.md_match.specs.Searches.{Marks, no_marks, is_marked, goal_tree, fill, Search, accept, is_accepted, is_idle, harmless, in_marked, others_pass, traps_pass, all_apart, all_held, match_all, occurs_by, occurs_in_move}
 use Rattle.md_match.specs.Ways.{Choice, Way, Choices, Ended, Next, Ways, ended, next}
-use Rattle.md_match.specs.Does.{IsAlikeMove, Takes, all_taken, taken, has_hole, IsMarked, IsHoleOfMarked, IsPartOfMarked, AllTraps, Does, HasHolesBelow, IsRow}
+use Rattle.md_match.specs.Does.{IsAlikeMove, Takes, all_taken, taken, has_hole, IsMarked, IsHoleOfMarked, IsPartOfMarked, AllTraps, Does, HasHolesBelow, IsRow, assigned}
 use Rattle.md_match.proofs.Filling.{Alike, IsHeld, IsFilled, Grows, IsFit, IsSane, from_alike}
 use Rattle.md_match.proofs.Sound.{same_or_not, grows_on, filled_on, way_sound}
 use Rattle.md_match.proofs.Whole.{IsPartOf, Reached, way_whole}
 use Rattle.md_match.proofs.Binding.{Holds, fill_filled, own_holds, held_in_own, filled_has, whole_filled, fit_each, fit_length, sane, room, none_held, none_room, held_all, occurs_same, or_true}
+use Rattle.md_match.proofs.Apart.{assigned_same, pairs_apart}
 use Rattle.md_match.proofs.Accepted.{others_all, occurs_marked, traps_all}
 use Rattle.md_match.proofs.Choices.{match_none}
 use Rattle.md_match.proofs.Done.{Grown, ways_grow, ways_length, keeps_mark, no_mark}
@@ -103,10 +104,11 @@ part_in n u b k row left places values x l o =
     let both : occurs_in_move (fill u) x o.move ≡ true = cc in
     occurs_marked (fill u) row left x at.place o.move at.is at.marked both
 
-pass : (c d : Bool) (s : Slots) → c ≡ true → d ≡ true → cond (c && d) (Some s) None ≡ None → ⊥
-pass true true s p q e = cc
-pass true false s p q e = let x : false ≡ true = q in cc
-pass false d s p q e = let x : false ≡ true = p in cc
+pass : (c d e : Bool) (s : Slots) → c ≡ true → d ≡ true → e ≡ true → cond (c && (d && e)) (Some s) None ≡ None → ⊥
+pass true true true s p q r e = cc
+pass true true false s p q r e = let x : false ≡ true = r in cc
+pass true false f s p q r e = let x : false ≡ true = q in cc
+pass false d f s p q r e = let x : false ≡ true = p in cc
 
 pub reached_accepted : (w g : ℕ) (holes : List Hole) (t : Search) (es : List Move) (b : List Bound) (marks : Marks)
   → t.count ≡ length holes → IsRow holes t.row → Does w g holes (is_idle t.flags t.barred) t.row es b marks
@@ -134,7 +136,9 @@ reached_accepted w g holes t es b marks count row d r none =
           (traps_all (length holes) (in_marked (fill u) t.row marks) (IsPartOfMarked t.row marks b)
             (λ x l p. part_in (length holes) u b holds t.row marks row.places row.values x l p)
             m.value (row.values j m is) (d.traps m at)))) in
-    pass (all_held (take t.count u)) (others_pass (harmless (is_idle t.flags t.barred) (in_marked (fill u) t.row marks)) t.row marks) u full others none
+    let apart = pairs_apart u (assigned b) t.row
+        (λ j m e. assigned_same (length holes) u b holds m.to (row.places j m e)) d.different in
+    pass (all_held (take t.count u)) (others_pass (harmless (is_idle t.flags t.barred) (in_marked (fill u) t.row marks)) t.row marks) (all_apart u t.row) u full others apart none
 
 -- where nothing is found, no binding makes the row do the transfer
 pub none_done : (w g : ℕ) (holes : List Hole) (t : Search) (es : List Move)

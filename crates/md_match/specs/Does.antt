@@ -1,12 +1,13 @@
 -- When a row with a binding does a transfer.
-use Rattle.std.specs.Prelude.{◌≡◌, ℕ, ◌<◌, ◌≤◌, Bool, true, false, ◌||◌, ◌==◌, List, [], ◌∷◌, length, set, slice_get, take, Option, Some, None}
+use Rattle.std.specs.Prelude.{◌≡◌, ◌≢◌, AllPairs, filter_map, ℕ, ◌<◌, ◌≤◌, Bool, true, false, ◌||◌, ◌==◌, List, [], ◌∷◌, length, set, slice_get, take, Option, Some, None}
 use Rattle.rtl_tree.specs.Trees.{Tree, Read, Load, Unary, Binary, AnyNumber, AnyName}
 use Rattle.rtl_tree.specs.Moves.{Move}
 use Rattle.rtl_tree.specs.Likeness.{IsAlike}
+use Rattle.rtl_tree.specs.declared.cells.Cell.{Cell}
 use Rattle.rtl_tree.specs.declared.cells.Cell.TheVariants.{Hole as RegisterHole}
 use Rattle.md_rows.specs.declared.row.Hole.{Hole}
 use Rattle.md_rows.specs.declared.instance.Bound.{Bound}
-use Rattle.md_rows.specs.Instances.{filled, AllFit}
+use Rattle.md_rows.specs.Instances.{filled, filled_goal, assigned_register, AllFit}
 use Rattle.md_match.specs.Searches.{Marks, no_marks, is_marked, goal_tree, unary_traps, binary_traps, occurs_in_move}
 
 -- an assignment of a row, filled, is alike an assignment: their places, and their values
@@ -55,15 +56,20 @@ AllTraps P (Unary o a) = (unary_traps o ≡ true → P (Unary o a)) × AllTraps 
 AllTraps P (Binary o a b) = (binary_traps o ≡ true → P (Binary o a b)) × AllTraps P a × AllTraps P b
 AllTraps P _ = Unit {0}
 
+-- the register or temporary that an assignment of the row is to, once it is filled
+abbrev pub assigned : List Bound → Move → Option Cell
+assigned b r = assigned_register (filled_goal b r.to)
+
 -- With words of w bits and the general registers g, a row with the binding b does a transfer: each assignment of the transfer is
--- alike one of the row's of its own, which is marked; the others are idle and trap only where a marked one does; and every hole is
--- bound by a marked one.
+-- alike one of the row's of its own, which is marked; the others are idle and trap only where a marked one does; every hole is bound
+-- by a marked one; and no two assigned registers become one.
 pub record Does (w g : ℕ) (holes : List Hole) (idle : Move → Bool) (row es : List Move) (b : List Bound) (marks : Marks) : Type 0 where
   pub fit : AllFit w g holes b
   pub takes : Takes row b no_marks es marks
   pub others : (r : Move) → IsMarked row marks false r → idle r ≡ true
   pub traps : (r : Move) → IsMarked row marks false r → AllTraps (IsPartOfMarked row marks b) r.value
   pub bound : (h : ℕ) → h < length holes → IsHoleOfMarked row marks h
+  pub different : AllPairs (λ c d. c ≢ d) (filter_map (assigned b) row)
 
 -- each hole of a tree is one of the row's
 abbrev pub HasHolesBelow : ℕ → Tree → Type 0

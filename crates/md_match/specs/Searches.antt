@@ -3,14 +3,15 @@ use Rattle.std.specs.Prelude.{ℕ, ◌+◌, Bool, true, false, not, cond, ◌==�
 use Rattle.std.specs.Int.{bit_at}
 use Rattle.rtl_tree.specs.Trees.{Tree, Number, Symbol, CodeLabel, Read, Load, Unary, Binary, NoPair, AnyNumber, AnyName}
 use Rattle.rtl_tree.specs.Moves.{Goal, ToCell, ToMemory, Move}
-use Rattle.rtl_tree.specs.Same.{same_tree}
+use Rattle.rtl_tree.specs.Same.{same_cell, same_tree}
 use Rattle.rtl_tree.specs.declared.cells.Cell.{Cell}
-use Rattle.rtl_tree.specs.declared.cells.Cell.TheVariants.{Hard, Flag, Hole as RegisterHole}
+use Rattle.rtl_tree.specs.declared.cells.Cell.TheVariants.{Hard, Temp, Flag, Hole as RegisterHole}
 use Rattle.rtl_tree.specs.declared.expressions.UnOp.{UnOp}
 use Rattle.rtl_tree.specs.declared.expressions.UnOp.TheVariants.{Test}
 use Rattle.rtl_tree.specs.declared.expressions.BinOp.{BinOp}
 use Rattle.rtl_tree.specs.declared.expressions.BinOp.TheVariants.{Div, Divu, Rem, Remu, Shl, Shr, Shru}
 use Rattle.md_rows.specs.declared.instance.Bound.{Bound}
+use Rattle.md_rows.specs.declared.instance.Bound.TheVariants.{Reg}
 use Rattle.md_rows.specs.Fits.{is_in}
 use Rattle.md_rows.specs.Instances.{leaf_of}
 use Rattle.md_match.specs.Slots.{Slots, Fit}
@@ -119,10 +120,36 @@ all_held (o ∷ s) = is_held o && all_held s
 abbrev pub harmless : (Move → Bool) → (Tree → Bool) → Move → Bool
 harmless idle q r = idle r && traps_pass q r.value
 
--- whether the assignments without a mark are as they must be, and the first holes are all bound
+-- the register or temporary that is assigned, as far as the holes are known
+abbrev pub held_register : Option (Option Bound) → Option Cell
+held_register (Some (Some (Reg (Hard k)))) = Some (Hard k)
+held_register (Some (Some (Reg (Temp n)))) = Some (Temp n)
+held_register _ = None
+
+abbrev pub assigned_by : Slots → Goal → Option Cell
+assigned_by s (ToCell (Hard k)) = Some (Hard k)
+assigned_by s (ToCell (Temp n)) = Some (Temp n)
+assigned_by s (ToCell (RegisterHole h)) = held_register (slice_get s h)
+assigned_by s _ = None
+
+abbrev pub same_register : Option Cell → Option Cell → Bool
+same_register (Some c) (Some d) = same_cell c d
+same_register _ _ = false
+
+-- whether none of these assignments is to that register
+abbrev pub apart_from : Slots → Option Cell → List Move → Bool
+apart_from s o [] = true
+apart_from s o (r ∷ rs) = not (same_register o (assigned_by s r.to)) && apart_from s o rs
+
+-- whether no two are to one register
+abbrev pub all_apart : Slots → List Move → Bool
+all_apart s [] = true
+all_apart s (r ∷ rs) = apart_from s (assigned_by s r.to) rs && all_apart s rs
+
+-- whether the assignments without a mark are as they must be, the first holes are all bound, and no two registers become one
 abbrev pub is_accepted : ℕ → (Move → Bool) → List Move → Marks → Slots → Bool
 is_accepted count idle row used s =
-    all_held (take count s) && others_pass (harmless idle (in_marked (fill s) row used)) row used
+    all_held (take count s) && (others_pass (harmless idle (in_marked (fill s) row used)) row used && all_apart s row)
 
 -- what a search looks for
 pub record Search : Type 0 where

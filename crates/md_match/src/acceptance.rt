@@ -1,17 +1,17 @@
 //! What a row's assignments without a mark must be.
 
-ghost use Rattle.std.specs.Prelude.{◌≡◌, ◌≤◌, length, take, slice_get, Some};
+ghost use Rattle.std.specs.Prelude.{◌≡◌, ◌≤◌, drop, length, take, slice_get, Some};
 ghost use Rattle.rtl_tree.specs.Trees.{tree_of, Load};
 ghost use Rattle.rtl_tree.specs.Moves.{goal_of};
 ghost use Rattle.rtl_tree.specs.Same.{same_tree};
 ghost use Rattle.md_rows.specs.Instances.{leaf_of};
 ghost use Rattle.md_match.specs.Leaves.{leaf_kind, leaf_tree, same_leaves};
-ghost use Rattle.md_match.specs.Searches.{all_held, binary_traps, fill, filled_with, goal_tree, harmless, in_marked, is_accepted as accepted, is_flag_of, is_idle as is_idle_by, names_none as none_named, occurs_by, occurs_in_move, others_pass, traps_pass, unary_traps};
+ghost use Rattle.md_match.specs.Searches.{all_apart, all_held, apart_from, assigned_by, binary_traps, fill, filled_with, goal_tree, harmless, in_marked, is_accepted as accepted, is_flag_of, is_idle as is_idle_by, names_none as none_named, occurs_by, occurs_in_move, others_pass, same_register, traps_pass, unary_traps};
 
 use crate::fitting::has_bit;
 use crate::slots::{Marks, Slots, is_same_binary, is_same_unary, is_same_width};
 use md_rows::Bound;
-use rtl_tree::{Assign, BinOp, Cell, Expr, Lab, Place, UnOp, Width};
+use rtl_tree::{Assign, BinOp, Cell, Expr, Lab, Place, UnOp, Width, is_same};
 
 /// Whether a tree names none of the hard registers `barred`, which have a bit each, by its number.
 pub fn names_none(barred: u64, e: &Expr) -> bool
@@ -267,12 +267,66 @@ fn are_held(count: usize, slots: &Slots) -> bool
     true
 }
 
-/// Whether the first `count` holes are all bound, and the assignments without a mark are harmless: to the flags and without the
-/// registers that `demands` says, and trapping only where a marked one does.
+// The register or temporary that is assigned, as far as the holes are known.
+fn assigned(slots: &Slots, to: &Place) -> Option<Cell>
+    ensures { result ≡ assigned_by slots.now (goal_of to.now) }
+{
+    match to {
+        Place::Cell(Cell::Hard(k)) => Some(Cell::Hard(*k)),
+        Place::Cell(Cell::Temp(n)) => Some(Cell::Temp(*n)),
+        Place::Cell(Cell::Hole(h)) => match slots.get(usize::from(*h)) {
+            Some(Some(Bound::Reg(Cell::Hard(k)))) => Some(Cell::Hard(*k)),
+            Some(Some(Bound::Reg(Cell::Temp(n)))) => Some(Cell::Temp(*n)),
+            _ => None,
+        },
+        _ => None,
+    }
+}
+
+fn is_same_register(a: Option<Cell>, b: Option<Cell>) -> bool
+    ensures { result ≡ same_register a b }
+{
+    match (a, b) {
+        (Some(c), Some(d)) => is_same(c, d),
+        _ => false,
+    }
+}
+
+// Whether none of the assignments from a place on is to that register.
+fn is_apart_from(slots: &Slots, register: Option<Cell>, row: &[Assign], from: usize) -> bool
+    ensures { result ≡ apart_from slots.now register (drop from row.now) }
+{
+    for j in from..row.len() {
+        let other = &row[j];
+        if is_same_register(register, assigned(slots, &other.to)) {
+            return false;
+        }
+    }
+    true
+}
+
+// Whether no two assignments are to one register.
+fn are_apart(slots: &Slots, row: &[Assign]) -> bool
+    requires { length row.now ≤ 6 }
+    ensures { result ≡ all_apart slots.now row.now }
+{
+    for i in 0..row.len() {
+        let first = &row[i];
+        if !is_apart_from(slots, assigned(slots, &first.to), row, i + 1) {
+            return false;
+        }
+    }
+    true
+}
+
+/// Whether the first `count` holes are all bound, the assignments without a mark are harmless (to the flags and without the registers
+/// that `demands` says, and trapping only where a marked one does), and no two assigned registers become one.
 pub fn is_accepted(demands: Demands, count: usize, row: &[Assign], used: &Marks, slots: &Slots) -> bool
     requires holes { count ≤ 8 }
     requires row { length row.now ≤ 6 }
     ensures { result ≡ accepted count (is_idle_by demands.flags demands.barred) row.now used.now slots.now }
 {
-    are_held(count, slots) && are_others_harmless(demands, row, used, slots)
+    are_held(count, slots)
+        && are_others_harmless(demands, row, used, slots)
+        && are_apart(slots, row)
 }

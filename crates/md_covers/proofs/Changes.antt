@@ -1,5 +1,6 @@
 -- What is alike stays alike where leaves are changed, and what a row does it does after a change.
 use Rattle.std.proofs.Common.{◌≡◌, ◌⊎◌, ℕ, zero, suc, ◌+◌, ◌<◌, Bool, true, false, ◌||◌, List, [], ◌∷◌, map, length, set, slice_get, Option, Some, None, inl, inr, refl, sym, subst, ap, arith, ◌∙◌}
+use Rattle.std.specs.Prelude.{◌≢◌, AllPairs, filter_map}
 use Rattle.rtl_tree.specs.Trees.{Tree, Number, Symbol, CodeLabel, Read, Load, Unary, Binary, NoPair, AnyNumber, AnyName}
 use Rattle.rtl_tree.specs.Moves.{Goal, ToCell, ToMemory, Move}
 use Rattle.rtl_tree.specs.Likeness.{commutes, IsAlike, equal, loads, unaries, straight, crossed}
@@ -17,7 +18,7 @@ use Rattle.md_rows.specs.declared.instance.Bound.TheVariants.{Reg, Num, Sym, Lab
 use Rattle.md_rows.specs.Instances.{leaf_of, held_by, filled, AllFit}
 use Rattle.md_match.specs.Slots.{fit_of}
 use Rattle.md_match.specs.Searches.{Marks, no_marks, is_marked, goal_tree, unary_traps, binary_traps, occurs_by, occurs_in_move}
-use Rattle.md_match.specs.Does.{IsAlikeMove, Takes, all_taken, taken, IsMarked, IsHoleOfMarked, IsPartOfMarked, AllTraps, Does}
+use Rattle.md_match.specs.Does.{IsAlikeMove, Takes, all_taken, taken, IsMarked, IsHoleOfMarked, IsPartOfMarked, AllTraps, assigned, Does}
 use Rattle.md_match.proofs.Binding.{or_true, fit_each, fit_length, fit_all}
 
 -- what is put for leaves
@@ -267,6 +268,7 @@ pub record Carries (w g : ℕ) (holes : List Hole) (d : Change) (row es : List M
   pub kinds : Each Q es
   pub takes : FixesTaken d row b Q
   pub traps : (r : Move) → IsMarked row marks false r → AllTraps (IsFixed d) r.value
+  pub different : AllPairs (λ x y. x ≢ y) (filter_map (assigned (map (changed_bound d) b)) row)
 
 -- what a row does it does after a change
 pub does_changed : (w g : ℕ) (holes : List Hole) (idle : Move → Bool) (d : Change) (row es : List Move) (b : List Bound) (marks : Marks) (Q : Move → Type 0)
@@ -283,5 +285,6 @@ does_changed w g holes idle d row es b marks Q c h = record {
         (λ j n is y. (let t = taken_by row b Q no_marks marks es c.kinds h.takes j n is (no_mark j) y in c.takes.each j n t.by is t.kind t.alike))
         x p f)
       r.value (h.traps r m) (c.traps r m);
-    bound = h.bound
+    bound = h.bound;
+    different = c.different
   }

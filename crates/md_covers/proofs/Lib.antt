@@ -8,3 +8,4 @@ pub mod Whole
 pub mod Normal
 pub mod RegisterBits
 pub mod Decide
+pub mod OneRegister

@@ -12,6 +12,7 @@ use Rattle.md_shapes.specs.declared.patterns.Pattern.TheVariants.{Copy, SetNumbe
 use Rattle.md_shapes.specs.Shapes.{Frame, Open, shape_moves, example, has_transfer, has_link, stack_plus, saved, restored, call_moves, return_moves}
 use Rattle.md_covers.specs.Numbers.{Run, IsOfSome, has_runs, runs_of, words, multiples, negatives, end_of}
 use Rattle.md_covers.proofs.Changes.{Change, changed_move, Each}
+use Rattle.md_covers.proofs.OneRegister.{AtMostOne}
 use Rattle.md_covers.proofs.Wide.{IsRun, AreRuns}
 use Rattle.md_covers.proofs.Ranged.{OneMove, is_flag_goal}
 
@@ -78,6 +79,31 @@ moved w m Halt p n = refl
 moved w m ReadResult p n = refl
 moved w m SetResult p n = refl
 moved w m ExtendByte p n = refl
+
+-- each assigns at most one register
+
+call_one : (m : Frame) (l : Lab) (link : Option ℕ) → AtMostOne (call_moves m link l)
+call_one m l (Some z) = inr (refl, tt)
+call_one m l None = inl (refl, inr (refl, tt))
+
+return_one : (m : Frame) (link : Option ℕ) → AtMostOne (return_moves m link)
+return_one m (Some z) = inr tt
+return_one m None = inl (refl, inr tt)
+
+saved_at_most : (link : Option ℕ) (at : Tree) → AtMostOne (saved link at)
+saved_at_most (Some z) at = inr tt
+saved_at_most None at = tt
+
+restored_at_most : (link : Option ℕ) (at : Tree) → AtMostOne (restored link at)
+restored_at_most (Some z) at = inr tt
+restored_at_most None at = tt
+
+pub at_most_one : (m : Frame) (pattern : Pattern) (p : Open) → AtMostOne (shape_moves m pattern p)
+at_most_one m Call p = call_one m p.label m.link
+at_most_one m Return p = return_one m m.link
+at_most_one m SaveLink p = saved_at_most m.link (stack_plus m p.number)
+at_most_one m RestoreLink p = restored_at_most m.link (stack_plus m p.number)
+at_most_one m _ p = inr tt
 
 -- shapes with numbers
 

@@ -16,16 +16,17 @@ use Rattle.md_rows.specs.declared.instance.Bound.{Bound}
 use Rattle.md_rows.specs.declared.instance.Bound.TheVariants.{Reg, Num, Sym, Label}
 use Rattle.md_rows.specs.Fits.{fits, is_in}
 use Rattle.md_match.specs.Slots.{fit_of, fit_at}
-use Rattle.md_match.specs.Searches.{Marks, goal_tree, traps_pass, is_flag_of, is_idle, names_none}
+use Rattle.md_match.specs.Searches.{Marks, no_marks, goal_tree, traps_pass, is_flag_of, is_idle, names_none}
 use Rattle.md_match.specs.Does.{IsAlikeMove, IsMarked, AllTraps, Does}
 use Rattle.md_shapes.specs.declared.patterns.Pattern.{Pattern}
 use Rattle.md_shapes.specs.Shapes.{Frame, Open, shape_moves, example, has_transfer}
 use Rattle.md_covers.specs.Numbers.{Run, IsOf, IsOfSome, IsNumberOf, has_runs, runs_of, first_number, takes_runs, is_open, is_open_move}
 use Rattle.md_covers.specs.Covers.{IsRowTree, IsRowMove, IsDoneBySome, IsGeneral, IsOpenOf}
-use Rattle.md_covers.proofs.Changes.{Change, changed_bound, changed_move, IsFixed, IsFixedMove, Each, FixesTaken, Carries, traps_two, does_changed}
+use Rattle.md_covers.proofs.Changes.{Change, changed_bound, changed_move, IsFixed, IsFixedMove, Each, FixesTaken, Carries, takes_changed, traps_two, does_changed}
 use Rattle.md_covers.proofs.Wide.{IsRun, AreRuns, takes_some, first_of}
 use Rattle.md_covers.proofs.Ranged.{OneMove, DoneAt, TakesAll, is_flag_goal, flag_goal, flags_apart, flag_open, other_open, traps_open, row_traps, covers_takes}
-use Rattle.md_covers.proofs.Patterns.{put_cell, put_number, to_open, moved, one_move, are_runs}
+use Rattle.md_covers.proofs.OneRegister.{AtMostOne, one_register}
+use Rattle.md_covers.proofs.Patterns.{at_most_one, put_cell, put_number, to_open, moved, one_move, are_runs}
 
 -- leaves of the row that stay
 
@@ -129,14 +130,22 @@ AnyMove e = Unit {0}
 abbrev NoFlag : Move → Type 0
 NoFlag e = is_flag_goal e.to ≡ false
 
+plain_fixed : (holes : List Hole) (row : List Move) → ((j : ℕ) (r : Move) → slice_get row j ≡ Some r → IsRowMove holes r)
+  → (p : Open) (j : ℕ) (r : Move) → slice_get row j ≡ Some r → IsFixedMove (to_open false p) r
+plain_fixed holes row kinds p j r is =
+    let x = kinds j r is in record { place = fixed_any holes p (goal_tree r.to) x.place; value = fixed_any holes p r.value x.value }
+
 plain_carries : (w g : ℕ) (holes : List Hole) (row : List Move) → ((j : ℕ) (r : Move) → slice_get row j ≡ Some r → IsRowMove holes r)
   → (p : Open) → IsGeneral g p.a → IsGeneral g p.b → (es : List Move) (b : List Bound) (marks : Marks)
+  → Does w g holes (is_idle 255 g) row es b marks → AtMostOne (map (changed_move (to_open false p)) es)
   → Carries w g holes (to_open false p) row es b marks AnyMove
-plain_carries w g holes row kinds p a b es c marks = record {
+plain_carries w g holes row kinds p a b es c marks does one = record {
     fits = λ h v e. at_fits w g (slice_get holes h) false p a b (λ hole q m f. f) v e;
     kinds = each_all AnyMove (λ e. tt) es;
-    takes = record { each = λ j r e is q k. (let x = kinds j r is in
-      record { place = fixed_any holes p (goal_tree r.to) x.place; value = fixed_any holes p r.value x.value }) };
+    takes = record { each = λ j r e is q k. plain_fixed holes row kinds p j r is };
+    different = one_register g row (map (changed_bound (to_open false p)) c) marks (map (changed_move (to_open false p)) es) one
+      (takes_changed (to_open false p) row c AnyMove (record { each = λ j r e is q k. plain_fixed holes row kinds p j r is }) no_marks marks es
+        (each_all AnyMove (λ e. tt) es) does.takes) does.others;
     traps = λ r m. (let x = row_traps holes r.value (kinds m.place r m.is).value in
       traps_two (IsRowTree holes) (IsRowTree holes) (IsFixed (to_open false p)) (λ t u v. fixed_any holes p t u) r.value x x)
   }
@@ -160,14 +169,17 @@ taken_fixed w holes row rs kinds t p b j r e is q k = by (is_flag_goal r.to) ref
 ranged_carries : (w g : ℕ) (holes : List Hole) (row : List Move) (rs : List Run) → AreRuns w rs → ((j : ℕ) (r : Move) → slice_get row j ≡ Some r → IsRowMove holes r)
   → TakesAll w holes row rs → (p : Open) → IsGeneral g p.a → IsGeneral g p.b → IsOfSome rs p.number
   → (es : List Move) → Each NoFlag es → (b : List Bound) (marks : Marks)
-  → ((r : Move) → IsMarked row marks false r → is_idle 255 g r ≡ true)
+  → Does w g holes (is_idle 255 g) row es b marks → AtMostOne (map (changed_move (to_open true p)) es)
   → Carries w g holes (to_open true p) row es b marks NoFlag
-ranged_carries w g holes row rs k kinds t p a b i es q c marks idle = record {
+ranged_carries w g holes row rs k kinds t p a b i es q c marks does one = record {
     fits = λ h v e. at_fits w g (slice_get holes h) true p a b (λ hole z m f. number_fits w g holes row rs k t p i h hole z m f) v e;
     kinds = q;
     takes = record { each = λ j r e is n x. taken_fixed w holes row rs kinds t p c j r e is n x };
+    different = one_register g row (map (changed_bound (to_open true p)) c) marks (map (changed_move (to_open true p)) es) one
+      (takes_changed (to_open true p) row c NoFlag (record { each = λ j r e is n x. taken_fixed w holes row rs kinds t p c j r e is n x }) no_marks marks es
+        q does.takes) does.others;
     traps = λ r m. (let x = row_traps holes r.value (kinds m.place r m.is).value in
-      let f = flag_goal 255 r.to (and_left (is_flag_of 255 r.to) (names_none g r.value) (idle r m)) in
+      let f = flag_goal 255 r.to (and_left (is_flag_of 255 r.to) (names_none g r.value) (does.others r m)) in
       let o = traps_open r.value (flag_open r.to r.value f (t.moves m.place r m.is)) in
       traps_two (IsRowTree holes) (λ z. is_open z ≡ true) (IsFixed (to_open true p)) (λ z u v. fixed_open holes p z u v) r.value x o)
   }
@@ -180,23 +192,23 @@ by_runs : (w g : ℕ) (holes : List Hole) (row : List Move) (m : Frame) (pattern
   → (has_runs rs ≡ true → TakesAll w holes row rs)
   → IsDoneBySome w g holes row (shape_moves m pattern (example (first_number rs)))
   → (p : Open) → IsGeneral g p.a → IsGeneral g p.b → IsNumberOf rs p.number
-  → (b : Bool) → has_runs rs ≡ b → IsDoneBySome w g holes row (map (changed_move (to_open b p)) (shape_moves m pattern (example (first_number rs))))
-by_runs w g holes row m pattern [] e k t kinds all done p a b n true h = let q : false ≡ true = h in cc
-by_runs w g holes row m pattern (r ∷ rs) e k t kinds all done p a b n false h = let q : true ≡ false = h in cc
-by_runs w g holes row m pattern [] e k t kinds all done p a b n false h =
+  → (b : Bool) → has_runs rs ≡ b → AtMostOne (map (changed_move (to_open b p)) (shape_moves m pattern (example (first_number rs)))) → IsDoneBySome w g holes row (map (changed_move (to_open b p)) (shape_moves m pattern (example (first_number rs))))
+by_runs w g holes row m pattern [] e k t kinds all done p a b n true h o = let q : false ≡ true = h in cc
+by_runs w g holes row m pattern (r ∷ rs) e k t kinds all done p a b n false h o = let q : true ≡ false = h in cc
+by_runs w g holes row m pattern [] e k t kinds all done p a b n false h o =
     let es = shape_moves m pattern (example 0) in
     record {
       binding = map (changed_bound (to_open false p)) done.binding; marks = done.marks;
       does = does_changed w g holes (is_idle 255 g) (to_open false p) row es done.binding done.marks AnyMove
-        (plain_carries w g holes row kinds p a b es done.binding done.marks) done.does
+        (plain_carries w g holes row kinds p a b es done.binding done.marks done.does o) done.does
     }
-by_runs w g holes row m pattern (r ∷ rs) e k t kinds all done p a b n true h =
+by_runs w g holes row m pattern (r ∷ rs) e k t kinds all done p a b n true h o =
     let es = shape_moves m pattern (example r.first) in
     let one = one_move w m pattern t (ap has_runs e) r.first in
     record {
       binding = map (changed_bound (to_open true p)) done.binding; marks = done.marks;
       does = does_changed w g holes (is_idle 255 g) (to_open true p) row es done.binding done.marks NoFlag
-        (ranged_carries w g holes row (r ∷ rs) k kinds (all refl) p a b n es (one_flagless es r.first one) done.binding done.marks done.does.others) done.does
+        (ranged_carries w g holes row (r ∷ rs) k kinds (all refl) p a b n es (one_flagless es r.first one) done.binding done.marks done.does o) done.does
     }
 
 pub from_example : (w g : ℕ) (holes : List Hole) (row : List Move) (m : Frame) (pattern : Pattern) → IsWordSize w
@@ -207,7 +219,7 @@ pub from_example : (w g : ℕ) (holes : List Hole) (row : List Move) (m : Frame)
 from_example w g holes row m pattern z t kinds all done p o =
     subst (IsDoneBySome w g holes row) (sym (moved w m pattern p (first_number (runs_of w pattern))))
       (by_runs w g holes row m pattern (runs_of w pattern) refl (are_runs w z pattern) t kinds all done p o.a o.b o.number
-        (has_runs (runs_of w pattern)) refl)
+        (has_runs (runs_of w pattern)) refl (subst AtMostOne (moved w m pattern p (first_number (runs_of w pattern))) (at_most_one m pattern p)))
 
 -- and back
 

@@ -87,7 +87,7 @@ kept_at f (x ∷ xs) (suc i) r c e q =
     by None j e = (j, e)
     by (Some d) j e = (suc j, e)
 
-abbrev Different : Cell → Cell → Type 0
+abbrev pub Different : Cell → Cell → Type 0
 Different c d = c ≢ d
 
 -- the test says that they differ

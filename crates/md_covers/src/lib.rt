@@ -6,9 +6,14 @@
 #![tactic(auto)]
 
 mod covering;
-pub mod laws;
 mod lines;
 mod numbers;
 mod openness;
 mod ranges;
 mod registers;
+
+pub use covering::covers;
+pub use registers::general_bits;
+
+#[cfg(test)]
+mod tests;

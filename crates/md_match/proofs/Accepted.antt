@@ -9,7 +9,7 @@ use Rattle.md_match.specs.Does.{AllTraps, HasHolesBelow, IsMarked}
 use Rattle.md_match.proofs.Binding.{or_true}
 
 pub others_at : (p : Move → Bool) (row : List Move) (used : Marks) (j : ℕ) (r : Move) → others_pass p row used ≡ true
-  → slice_get row j ≡ Some r → is_marked used j ≡ false → p r ≡ true
+    → slice_get row j ≡ Some r → is_marked used j ≡ false → p r ≡ true
 others_at p [] us j r a e m = let k : None ≡ Some r = e in cc
 others_at p (x ∷ xs) [] j r a e m = let k : false ≡ true = a in cc
 others_at p (x ∷ xs) (true ∷ us) zero r a e m = let k : true ≡ false = m in cc
@@ -22,7 +22,7 @@ or_right true b k = refl
 or_right false b k = k refl
 
 pub others_all : (p : Move → Bool) (row : List Move) (used : Marks) → length row ≤ length used
-  → ((j : ℕ) (r : Move) → slice_get row j ≡ Some r → is_marked used j ≡ false → p r ≡ true) → others_pass p row used ≡ true
+    → ((j : ℕ) (r : Move) → slice_get row j ≡ Some r → is_marked used j ≡ false → p r ≡ true) → others_pass p row used ≡ true
 others_all p [] us l k = refl
 others_all p (x ∷ xs) [] l k = absurd (omega (arith, l))
 others_all p (x ∷ xs) (u ∷ us) l k =
@@ -37,22 +37,22 @@ pub record Occurs (g : Tree → Tree) (row : List Move) (used : Marks) (x : Tree
 
 later_occurs : (g : Tree → Tree) (r : Move) (row : List Move) (u : Bool) (used : Marks) (x : Tree) → Occurs g row used x → Occurs g (r ∷ row) (u ∷ used) x
 later_occurs g r row u used x o = record {
-    move = o.move;
-    marked = record { place = suc o.marked.place; is = o.marked.is; marked = o.marked.marked };
-    part = o.part
-  }
+  move = o.move;
+  marked = record { place = suc o.marked.place; is = o.marked.is; marked = o.marked.marked };
+  part = o.part;
+}
 
 pub marked_occurs : (g : Tree → Tree) (row : List Move) (used : Marks) (x : Tree) → in_marked g row used x ≡ true → Occurs g row used x
 marked_occurs g [] us x e = let k : false ≡ true = e in cc
 marked_occurs g (r ∷ rs) [] x e = let k : false ≡ true = e in cc
 marked_occurs g (r ∷ rs) (u ∷ us) x e = elim (or_true (u && occurs_in_move g x r) (in_marked g rs us x) e) [
-    inl p ↦ record {
-        move = r;
-        marked = record { place = 0; is = refl; marked = and_left u (occurs_in_move g x r) p };
-        part = and_right u (occurs_in_move g x r) p
-      }
+  | inl p ↦ record {
+    move = r;
+    marked = record { place = 0; is = refl; marked = and_left u (occurs_in_move g x r) p };
+    part = and_right u (occurs_in_move g x r) p;
+  }
   | inr p ↦ later_occurs g r rs u us x (marked_occurs g rs us x p)
-  ]
+]
 
 or_first : (a b : Bool) → a ≡ true → (a || b) ≡ true
 or_first true b e = refl
@@ -63,7 +63,7 @@ or_second true b e = refl
 or_second false b e = e
 
 pub occurs_marked : (g : Tree → Tree) (row : List Move) (used : Marks) (x : Tree) (j : ℕ) (r : Move) → slice_get row j ≡ Some r
-  → is_marked used j ≡ true → occurs_in_move g x r ≡ true → in_marked g row used x ≡ true
+    → is_marked used j ≡ true → occurs_in_move g x r ≡ true → in_marked g row used x ≡ true
 occurs_marked g [] us x j r e m o = let k : None ≡ Some r = e in cc
 occurs_marked g (y ∷ ys) [] x j r e m o = let k : false ≡ true = m in cc
 occurs_marked g (y ∷ ys) (u ∷ us) x zero r e m o =
@@ -84,23 +84,25 @@ to_test true b k = k refl
 to_test false b k = refl
 
 pub all_traps : (n : ℕ) (q : Tree → Bool) (P : Tree → Type 0) → ((x : Tree) → HasHolesBelow n x → q x ≡ true → P x)
-  → (t : Tree) → HasHolesBelow n t → traps_pass q t ≡ true → AllTraps P t
+    → (t : Tree) → HasHolesBelow n t → traps_pass q t ≡ true → AllTraps P t
 all_traps n q P k (Load w a) l e =
     (k (Load w a) l (and_left (q (Load w a)) (traps_pass q a) e), all_traps n q P k a l (and_right (q (Load w a)) (traps_pass q a) e))
 all_traps n q P k (Unary o a) l e =
-    let x = and_left (not (unary_traps o) || q (Unary o a)) (traps_pass q a) e in
-    (λ t. k (Unary o a) l (under_test (unary_traps o) (q (Unary o a)) x t),
-     all_traps n q P k a l (and_right (not (unary_traps o) || q (Unary o a)) (traps_pass q a) e))
+    let x = and_left (not (unary_traps o) || q (Unary o a)) (traps_pass q a) e in (
+      λ t. k (Unary o a) l (under_test (unary_traps o) (q (Unary o a)) x t),
+      all_traps n q P k a l (and_right (not (unary_traps o) || q (Unary o a)) (traps_pass q a) e),
+    )
 all_traps n q P k (Binary o a b) l e =
     let x = and_left (not (binary_traps o) || q (Binary o a b)) (traps_pass q a && traps_pass q b) e in
-    let y = and_right (not (binary_traps o) || q (Binary o a b)) (traps_pass q a && traps_pass q b) e in
-    (λ t. k (Binary o a b) l (under_test (binary_traps o) (q (Binary o a b)) x t),
-     all_traps n q P k a l.0 (and_left (traps_pass q a) (traps_pass q b) y),
-     all_traps n q P k b l.1 (and_right (traps_pass q a) (traps_pass q b) y))
+    let y = and_right (not (binary_traps o) || q (Binary o a b)) (traps_pass q a && traps_pass q b) e in (
+      λ t. k (Binary o a b) l (under_test (binary_traps o) (q (Binary o a b)) x t),
+      all_traps n q P k a l.0 (and_left (traps_pass q a) (traps_pass q b) y),
+      all_traps n q P k b l.1 (and_right (traps_pass q a) (traps_pass q b) y),
+    )
 all_traps n q P k _ l e = tt
 
 pub traps_all : (n : ℕ) (q : Tree → Bool) (P : Tree → Type 0) → ((x : Tree) → HasHolesBelow n x → P x → q x ≡ true)
-  → (t : Tree) → HasHolesBelow n t → AllTraps P t → traps_pass q t ≡ true
+    → (t : Tree) → HasHolesBelow n t → AllTraps P t → traps_pass q t ≡ true
 traps_all n q P k (Load w a) l e =
     and_both (q (Load w a)) (traps_pass q a) (k (Load w a) l e.0) (traps_all n q P k a l e.1)
 traps_all n q P k (Unary o a) l e =

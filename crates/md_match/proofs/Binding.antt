@@ -24,11 +24,11 @@ pub record Holds (n : ℕ) (u : Slots) (b : List Bound) : Type 0 where
   pub each : (h : ℕ) → h < n → (v : Bound) × (slice_get u h ≡ Some (Some v)) × (slice_get b h ≡ Some v)
 
 hole_same : (hole : Tree) (u : Slots) (b : List Bound) (h : ℕ) (v : Bound) → slice_get u h ≡ Some (Some v) → slice_get b h ≡ Some v
-  → filled_with hole (slice_get u h) ≡ held_by hole (slice_get b h)
+    → filled_with hole (slice_get u h) ≡ held_by hole (slice_get b h)
 hole_same hole u b h v p q = ap (filled_with hole) p ∙ ap (held_by hole) (sym q)
 
 hole_by : (n : ℕ) (u : Slots) (b : List Bound) → Holds n u b → (hole : Tree) (h : ℕ) → h < n
-  → filled_with hole (slice_get u h) ≡ held_by hole (slice_get b h)
+    → filled_with hole (slice_get u h) ≡ held_by hole (slice_get b h)
 hole_by n u b k hole h l = let x = k.each h l in hole_same hole u b h x.0 x.1 x.2
 
 pub fill_filled : (n : ℕ) (u : Slots) (b : List Bound) → Holds n u b → (t : Tree) → HasHolesBelow n t → fill u t ≡ filled b t
@@ -76,9 +76,9 @@ filled_has f u h (AnyName k) i e = subst (IsHeld f u) (sym (eqb-true h k e)) i
 filled_has f u h (Load w a) i e = filled_has f u h a i e
 filled_has f u h (Unary o a) i e = filled_has f u h a i e
 filled_has f u h (Binary o a c) i e = elim (or_true (has_hole h a) (has_hole h c) e) [
-    inl p ↦ filled_has f u h a i.0 p
+  | inl p ↦ filled_has f u h a i.0 p
   | inr p ↦ filled_has f u h c i.1 p
-  ]
+]
 filled_has f u h _ i e = let k : false ≡ true = e in cc
 
 -- a whole binding fills each tree of the row
@@ -93,7 +93,7 @@ whole_filled f n u k _ l = tt
 
 -- values that fit, by place
 pub fit_each : (w g : ℕ) (holes : List Hole) (b : List Bound) → AllFit w g holes b → (h : ℕ) (v : Bound) → slice_get b h ≡ Some v
-  → fit_of w g holes h v ≡ true
+    → fit_of w g holes h v ≡ true
 fit_each w g [] [] a h v e = let k : None ≡ Some v = e in cc
 fit_each w g (x ∷ xs) (y ∷ ys) a zero v e = let q : y ≡ v = cc in subst (λ z. fits w g x z ≡ true) q a.0
 fit_each w g (x ∷ xs) (y ∷ ys) a (suc h) v e = fit_each w g xs ys a.1 h v e
@@ -107,7 +107,7 @@ fit_length w g [] (y ∷ ys) a = absurd a
 fit_length w g (x ∷ xs) [] a = absurd a
 
 pub fit_all : (w g : ℕ) (holes : List Hole) (b : List Bound) → length b ≡ length holes
-  → ((h : ℕ) (v : Bound) → slice_get b h ≡ Some v → fit_of w g holes h v ≡ true) → AllFit w g holes b
+    → ((h : ℕ) (v : Bound) → slice_get b h ≡ Some v → fit_of w g holes h v ≡ true) → AllFit w g holes b
 fit_all w g [] [] e k = tt
 fit_all w g (x ∷ xs) (y ∷ ys) e k = (k 0 y refl, fit_all w g xs ys (omega (arith, e)) (λ h v p. k (suc h) v p))
 fit_all w g [] (y ∷ ys) e k = absurd (omega (arith, e))
@@ -189,14 +189,16 @@ known_here (None ∷ s) h a l = let k : false ≡ true = a in cc
 
 -- slots whose first n are known hold the binding of these
 pub known_holds : (n : ℕ) (u : Slots) → n ≤ length u → all_held (take n u) ≡ true → Holds n u (known (take n u))
-known_holds n u l a = record { each = λ h i.
-    (let long : length (take n u) ≡ n = length-take-le n u l in
-    let x = known_here (take n u) h a (subst (λ m. h < m) (sym long) i) in
-    (x.0, sym (taken_at n u h i) ∙ x.1, x.2)) }
+known_holds n u l a = record {
+  each = λ h i.
+      (let long : length (take n u) ≡ n = length-take-le n u l in
+      let x = known_here (take n u) h a (subst (λ m. h < m) (sym long) i) in
+      (x.0, sym (taken_at n u h i) ∙ x.1, x.2));
+}
 
 -- two fillings that agree on a row's trees make the same subtrees
 pub occurs_same : (n : ℕ) (g k : Tree → Tree) → ((t : Tree) → HasHolesBelow n t → g t ≡ k t) → (x : Tree) → HasHolesBelow n x
-  → (t : Tree) → HasHolesBelow n t → occurs_by g x t ≡ occurs_by k x t
+    → (t : Tree) → HasHolesBelow n t → occurs_by g x t ≡ occurs_by k x t
 occurs_same n g k e x i (Load w a) l =
     let p = e x i in let q = e (Load w a) l in let r = occurs_same n g k e x i a l in cc
 occurs_same n g k e x i (Unary o a) l =

@@ -11,8 +11,8 @@ use Rattle.md_match.proofs.Done.{found_done}
 use Rattle.md_match.proofs.Undone.{none_done}
 
 pub exact : (w g : ℕ) (holes : List Hole) (t : Search) (es : List Move) (o : Option Slots)
-  → t.fit ≡ fit_of w g holes → t.count ≡ length holes → IsRow holes t.row → o ≡ match_all t es no_marks no_slots
-  → MatchOption o ((b : List Bound) (marks : Marks) → ¬ Does w g holes (is_idle t.flags t.barred) t.row es b marks)
-      (IsDone w g holes (is_idle t.flags t.barred) t.row es)
+    → t.fit ≡ fit_of w g holes → t.count ≡ length holes → IsRow holes t.row → o ≡ match_all t es no_marks no_slots
+    → MatchOption o ((b : List Bound) (marks : Marks) → ¬ Does w g holes (is_idle t.flags t.barred) t.row es b marks)
+    (IsDone w g holes (is_idle t.flags t.barred) t.row es)
 exact w g holes t es (Some u) fit count row e = found_done w g holes t es u fit count row (sym e)
 exact w g holes t es None fit count row e = none_done w g holes t es fit count row (sym e)

@@ -45,7 +45,6 @@ pub record IsFit (f : Fit) (s : Slots) : Type 0 where
 pub record IsSane (f : Fit) : Type 0 where
   pub leafy : (h : ℕ) (v : Bound) → f h v ≡ true → bound_of (leaf_of v) ≡ Some v
 
-
 -- the same as alike trees
 
 alike_own : (a : Tree) → Alike a a
@@ -74,7 +73,7 @@ pub to_alike : (a b : Tree) → Alike a b → IsAlike a b
 to_alike (Load w a) (Load v c) h = subst (λ x. IsAlike (Load w a) (Load x c)) h.0 (loads w a c (to_alike a c h.1))
 to_alike (Unary o a) (Unary p c) h = subst (λ x. IsAlike (Unary o a) (Unary x c)) h.0 (unaries o a c (to_alike a c h.1))
 to_alike (Binary o a b) (Binary p c d) h = subst (λ x. IsAlike (Binary o a b) (Binary x c d)) h.0 (elim h.1 [
-    inl k ↦ straight o a b c d (to_alike a c k.0) (to_alike b d k.1)
+  | inl k ↦ straight o a b c d (to_alike a c k.0) (to_alike b d k.1)
   | inr k ↦ crossed o a b c d k.0 (to_alike a d k.1.1) (to_alike b c k.1.0)
-  ])
+])
 to_alike a b h = alike_equal a b (let q : a ≡ b = h in q)

@@ -43,10 +43,10 @@ boxed p a = record { ptr = p.ptr; alloc = p.alloc; value = a }
 
 -- a tree against one that isn't inner
 pub leaf_last : (s : Slots) (x : Tree) (b : Expr)
-  → ((w : Width) (a : Box Expr Global) → b ≡ Mem w a → ⊥)
-  → ((o : UnOp) (a : Box Expr Global) → b ≡ Un o a → ⊥)
-  → ((o : BinOp) (a c : Box Expr Global) → b ≡ Bin o a c → ⊥)
-  → same_leaves (leaf_kind x) (leaf_kind (fill s (tree_of b))) ≡ same_tree x (fill s (tree_of b))
+    → ((w : Width) (a : Box Expr Global) → b ≡ Mem w a → ⊥)
+    → ((o : UnOp) (a : Box Expr Global) → b ≡ Un o a → ⊥)
+    → ((o : BinOp) (a c : Box Expr Global) → b ≡ Bin o a c → ⊥)
+    → same_leaves (leaf_kind x) (leaf_kind (fill s (tree_of b))) ≡ same_tree x (fill s (tree_of b))
 leaf_last s x (Mem' w p a) m u b = absurd (m w (boxed p a) refl)
 leaf_last s x (Un' w p a) m u b = absurd (u w (boxed p a) refl)
 leaf_last s x (Bin' w p a q c) m u b = absurd (b w (boxed p a) (boxed q c) refl)

@@ -11,7 +11,7 @@ use Rattle.md_match.proofs.Size.{has_size}
 use Rattle.md_match.specs.Searches.{Marks, goal_tree, pick, one, is_marked, moves_size, move_size}
 
 pick_step : (f : Fit) (rs : List Move) (j : ℕ) (e x : Move) (used : Marks) (k : Marks → Slots → Option Slots) (s : Slots) → j < length rs
-  → pick f (drop j rs) j e used k s
+    → pick f (drop j rs) j e used k s
     ≡ or_else (cond (is_marked used j) None (one f (get_or rs j x) e (k (set used j true)) s)) (pick f (drop (j + 1) rs) (j + 1) e used k s)
 pick_step f rs j e x used k s h =
     let d : drop j rs ≡ get_or rs j x ∷ drop (suc j) rs = drop-cons rs j x h in
@@ -20,7 +20,7 @@ pick_step f rs j e x used k s h =
     rw (d, a) refl
 
 pub pick_skip : (f : Fit) (rs : List Move) (j : ℕ) (e x : Move) (used : Marks) (k : Marks → Slots → Option Slots) (s : Slots) → j < length rs
-  → is_marked used j ≡ true → pick f (drop (j + 1) rs) (j + 1) e used k s ≡ pick f (drop j rs) j e used k s
+    → is_marked used j ≡ true → pick f (drop (j + 1) rs) (j + 1) e used k s ≡ pick f (drop j rs) j e used k s
 pick_skip f rs j e x used k s h u = let p = pick_step f rs j e x used k s h in rw (p, u) refl
 
 after_none : (b : Bool) (o y : Option Slots) → b ≡ false → is_some o ≡ false → y ≡ or_else (cond b None o) y
@@ -34,21 +34,21 @@ after_some false None y e n = let q : false ≡ true = n in cc
 after_some false (Some t) y e n = refl
 
 pub pick_pass : (f : Fit) (rs : List Move) (j : ℕ) (e x : Move) (used : Marks) (k : Marks → Slots → Option Slots) (s : Slots) (o : Option Slots) → j < length rs
-  → is_marked used j ≡ false → o ≡ one f (get_or rs j x) e (k (set used j true)) s → is_some o ≡ false
-  → pick f (drop (j + 1) rs) (j + 1) e used k s ≡ pick f (drop j rs) j e used k s
+    → is_marked used j ≡ false → o ≡ one f (get_or rs j x) e (k (set used j true)) s → is_some o ≡ false
+    → pick f (drop (j + 1) rs) (j + 1) e used k s ≡ pick f (drop j rs) j e used k s
 pick_pass f rs j e x used k s o h u q n =
     let p = pick_step f rs j e x used k s h in
     let a = after_none (is_marked used j) (one f (get_or rs j x) e (k (set used j true)) s) (pick f (drop (j + 1) rs) (j + 1) e used k s) u
-        (subst (λ (z : Option Slots). is_some z ≡ false) q n) in
+    (subst (λ (z : Option Slots). is_some z ≡ false) q n) in
     a ∙ sym p
 
 pub pick_take : (f : Fit) (rs : List Move) (j : ℕ) (e x : Move) (used : Marks) (k : Marks → Slots → Option Slots) (s : Slots) (o : Option Slots) → j < length rs
-  → is_marked used j ≡ false → o ≡ one f (get_or rs j x) e (k (set used j true)) s → is_some o ≡ true
-  → o ≡ pick f (drop j rs) j e used k s
+    → is_marked used j ≡ false → o ≡ one f (get_or rs j x) e (k (set used j true)) s → is_some o ≡ true
+    → o ≡ pick f (drop j rs) j e used k s
 pick_take f rs j e x used k s o h u q n =
     let p = pick_step f rs j e x used k s h in
     let a = after_some (is_marked used j) (one f (get_or rs j x) e (k (set used j true)) s) (pick f (drop (j + 1) rs) (j + 1) e used k s) u
-        (subst (λ (z : Option Slots). is_some z ≡ true) q n) in
+    (subst (λ (z : Option Slots). is_some z ≡ true) q n) in
     q ∙ (a ∙ sym p)
 
 -- a cell against a place of memory
@@ -68,11 +68,11 @@ unfolding leaf
 memory_cell f w a e s = refl
 
 pub mixed : (f : Fit) (r e : Move) (k : Slots → Option Slots) (s : Slots) (c : Cell) (w : Width) (a : Tree)
-  → r.to ≡ ToCell c → e.to ≡ ToMemory w a → None ≡ one f r e k s
+    → r.to ≡ ToCell c → e.to ≡ ToMemory w a → None ≡ one f r e k s
 mixed f r e k s c w a p q =
     rw (p, q) (let x : leaf f (Read c) (Load w a) s ≡ None = cell_memory f c w a s in rw x refl)
 
 pub mixed_too : (f : Fit) (r e : Move) (k : Slots → Option Slots) (s : Slots) (c : Cell) (w : Width) (a : Tree)
-  → r.to ≡ ToMemory w a → e.to ≡ ToCell c → None ≡ one f r e k s
+    → r.to ≡ ToMemory w a → e.to ≡ ToCell c → None ≡ one f r e k s
 mixed_too f r e k s c w a p q =
     rw (p, q) (let x : leaf f (Load w a) (Read c) s ≡ None = memory_cell f w a (Read c) s in rw x refl)

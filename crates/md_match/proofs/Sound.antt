@@ -56,11 +56,11 @@ cond_some false x u e = absurd (clash u e)
 
 put_held : (f : Fit) (h : ℕ) (v u : Bound) (s : Slots) → slice_get s h ≡ Some (Some u) → u ≡ v → Put f h v s s
 put_held f h v u s e q = record {
-    there = cc;
-    grows = record { still = λ j w p. p };
-    fit = λ k. k.each h v cc;
-    stays_fit = λ k. k
-  }
+  there = cc;
+  grows = record { still = λ j w p. p };
+  fit = λ k. k.each h v cc;
+  stays_fit = λ k. k;
+}
 
 pub same_or_not : (j h : ℕ) → (j ≡ h) ⊎ (j ≡ h → ⊥)
 same_or_not zero zero = inl refl
@@ -72,23 +72,23 @@ free_differs : (s : Slots) (h j : ℕ) (w : Bound) → slice_get s h ≡ Some No
 free_differs s h j w e p q = let x = subst (λ (k : ℕ). slice_get s k ≡ Some (Some w)) q p in cc
 
 put_each : (f : Fit) (h : ℕ) (v : Bound) (s : Slots) → slice_get s h ≡ Some None → f h v ≡ true → IsFit f s
-  → (j : ℕ) (w : Bound) → slice_get (set s h (Some v)) j ≡ Some (Some w) → f j w ≡ true
+    → (j : ℕ) (w : Bound) → slice_get (set s h (Some v)) j ≡ Some (Some w) → f j w ≡ true
 put_each f h v s e q k j w p = elim (same_or_not j h) [
-    inl i ↦
+  | inl i ↦
       (let x : slice_get (set s h (Some v)) h ≡ Some (Some w) = subst (λ (n : ℕ). slice_get (set s h (Some v)) n ≡ Some (Some w)) i p in
       let y = get_same s h None (Some v) e in
       let z : v ≡ w = cc in
       subst (λ (n : ℕ). f n w ≡ true) (sym i) (subst (λ (n : Bound). f h n ≡ true) z q))
   | inr n ↦ (let y = get_other s h j (Some v) n in k.each j w cc)
-  ]
+]
 
 put_free : (f : Fit) (h : ℕ) (v : Bound) (s : Slots) → slice_get s h ≡ Some None → f h v ≡ true → Put f h v s (set s h (Some v))
 put_free f h v s e q = record {
-    there = get_same s h None (Some v) e;
-    grows = record { still = λ j w p. let y = get_other s h j (Some v) (free_differs s h j w e p) in cc };
-    fit = λ k. q;
-    stays_fit = λ k. record { each = put_each f h v s e q k }
-  }
+  there = get_same s h None (Some v) e;
+  grows = record { still = λ j w p. let y = get_other s h j (Some v) (free_differs s h j w e p) in cc };
+  fit = λ k. q;
+  stays_fit = λ k. record { each = put_each f h v s e q k };
+}
 
 put_at : (f : Fit) (h : ℕ) (v : Bound) (s t : Slots) (o : Option (Option Bound)) → slice_get s h ≡ o → put_slot f h v s o ≡ Some t → Put f h v s t
 put_at f h v s t None e p = absurd (clash t p)
@@ -155,16 +155,28 @@ leaf_sound : (f : Fit) (r e : Tree) (s t : Slots) → IsFit f s → leaf f r e s
 unfolding leaf
 leaf_sound f (Read (RegisterHole h)) e s t k p =
     let x = puts f h (bound_of e) s t p in
-    record { grows = x.put.grows; alike = hole_alike (Read (RegisterHole h)) e t h x.value x.put.there (leaf_is e x.value x.is);
-      filled = hole_held f e s t h k x; fit = x.put.stays_fit k }
+    record {
+      grows = x.put.grows;
+      alike = hole_alike (Read (RegisterHole h)) e t h x.value x.put.there (leaf_is e x.value x.is);
+      filled = hole_held f e s t h k x;
+      fit = x.put.stays_fit k;
+    }
 leaf_sound f (AnyNumber h) e s t k p =
     let x = puts f h (bound_of e) s t p in
-    record { grows = x.put.grows; alike = hole_alike (AnyNumber h) e t h x.value x.put.there (leaf_is e x.value x.is);
-      filled = hole_held f e s t h k x; fit = x.put.stays_fit k }
+    record {
+      grows = x.put.grows;
+      alike = hole_alike (AnyNumber h) e t h x.value x.put.there (leaf_is e x.value x.is);
+      filled = hole_held f e s t h k x;
+      fit = x.put.stays_fit k;
+    }
 leaf_sound f (AnyName h) e s t k p =
     let x = puts f h (bound_of e) s t p in
-    record { grows = x.put.grows; alike = hole_alike (AnyName h) e t h x.value x.put.there (leaf_is e x.value x.is);
-      filled = hole_held f e s t h k x; fit = x.put.stays_fit k }
+    record {
+      grows = x.put.grows;
+      alike = hole_alike (AnyName h) e t h x.value x.put.there (leaf_is e x.value x.is);
+      filled = hole_held f e s t h k x;
+      fit = x.put.stays_fit k;
+    }
 leaf_sound f (Number n) (Number m) s t k p =
     let x = cond_some (n == m) s t p in
     record { grows = grows_same s t x.1; alike = ap Number (eqb-true n m x.0); filled = tt; fit = fit_same f s t x.1 k }
@@ -216,7 +228,7 @@ filled_on f m t g (Binary o a b) k = (filled_on f m t g a k.0, filled_on f m t g
 filled_on f m t g _ k = tt
 
 hole_fill : (f : Fit) (m t : Slots) (h : ℕ) (hole : Tree) → Grows m t → IsHeld f m h
-  → filled_with hole (slice_get m h) ≡ filled_with hole (slice_get t h)
+    → filled_with hole (slice_get m h) ≡ filled_with hole (slice_get t h)
 hole_fill f m t h hole g k = let x = k.held in let y = g.still h k.value k.held in ap (filled_with hole) cc
 
 pub keeps_fill : (f : Fit) (m t : Slots) → Grows m t → (r : Tree) → IsFilled f m r → fill m r ≡ fill t r
@@ -244,7 +256,7 @@ way_sound f _ _ _ _ _ k (straight o a b c d i j s m t p q) =
       grows = grows_on s m t x.grows y.grows;
       alike = (refl, inl (alike_on f m t y.grows a c x.filled x.alike, y.alike));
       filled = (filled_on f m t y.grows a x.filled, y.filled);
-      fit = y.fit
+      fit = y.fit;
     }
 way_sound f _ _ _ _ _ k (crossed o a b c d i j s m t e p q) =
     let x = way_sound f b c i s m k p in
@@ -253,5 +265,5 @@ way_sound f _ _ _ _ _ k (crossed o a b c d i j s m t e p q) =
       grows = grows_on s m t x.grows y.grows;
       alike = (refl, inr (e, (alike_on f m t y.grows b c x.filled x.alike, y.alike)));
       filled = (y.filled, filled_on f m t y.grows b x.filled);
-      fit = y.fit
+      fit = y.fit;
     }

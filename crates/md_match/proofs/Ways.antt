@@ -72,7 +72,7 @@ leaf_find f (AnyName n) e k s v p = goes_on (leaf f (AnyName n) e s) k v p
 
 -- where nothing is found, no way goes on
 pub find_none : (f : Fit) (r e : Tree) (k : Slots → Option Slots) (s : Slots) → find f r e k s ≡ None
-  → (j : Choice) (v : Slots) → Way f r e j s v → k v ≡ None
+    → (j : Choice) (v : Slots) → Way f r e j s v → k v ≡ None
 find_none f (Load w a) (Load _ c) k s n _ v (at_load _ _ _ i _ _ p) =
     find_none f a c k s (cond_none _ _ n (same_width-own w)) i v p
 find_none f (Unary o a) (Unary _ c) k s n _ v (at_unary _ _ _ i _ _ p) =
@@ -95,12 +95,12 @@ not_here _ _ (right_crossed i j l b) e = cc
 
 found_here : (f : Fit) (r e : Tree) (k : Slots → Option Slots) (s u : Slots) (o : Option Slots) → leaf f r e s ≡ o → then_go o k ≡ Some u → Found f r e k s u
 found_here f r e k s u (Some t) p g = record {
-    by = Here;
-    to = t;
-    way = at_leaf r e s t p;
-    goes = g;
-    first = λ j v w b. absurd (not_here j Here b refl)
-  }
+  by = Here;
+  to = t;
+  way = at_leaf r e s t p;
+  goes = g;
+  first = λ j v w b. absurd (not_here j Here b refl);
+}
 found_here f r e k s u None p g = absurd (clash u g)
 
 found_leaf : (f : Fit) (r e : Tree) (k : Slots → Option Slots) (s u : Slots) → then_go (leaf f r e s) k ≡ Some u → Found f r e k s u
@@ -116,22 +116,22 @@ not_first _ _ (right_crossed i j l b) e = cc
 
 -- what comes before the first way of a part comes to nothing
 first_load : (f : Fit) (k : Slots → Option Slots) (w v : Width) (a c : Tree) (i : Choice) (s : Slots)
-  → ((j : Choice) (x : Slots) → Way f a c j s x → Before j i → k x ≡ None)
-  → (j : Choice) (x : Slots) → Way f (Load w a) (Load v c) j s x → Before j (Under i) → k x ≡ None
+    → ((j : Choice) (x : Slots) → Way f a c j s x → Before j i → k x ≡ None)
+    → (j : Choice) (x : Slots) → Way f (Load w a) (Load v c) j s x → Before j (Under i) → k x ≡ None
 first_load f k w _ a c i s first _ x (at_load _ _ _ j _ _ p) (under _ _ b) = first j x p b
 first_load f k w v a c i s first _ x (at_leaf _ _ _ _ p) b = absurd (not_first Here (Under i) b refl)
 
 first_unary : (f : Fit) (k : Slots → Option Slots) (w v : UnOp) (a c : Tree) (i : Choice) (s : Slots)
-  → ((j : Choice) (x : Slots) → Way f a c j s x → Before j i → k x ≡ None)
-  → (j : Choice) (x : Slots) → Way f (Unary w a) (Unary v c) j s x → Before j (Under i) → k x ≡ None
+    → ((j : Choice) (x : Slots) → Way f a c j s x → Before j i → k x ≡ None)
+    → (j : Choice) (x : Slots) → Way f (Unary w a) (Unary v c) j s x → Before j (Under i) → k x ≡ None
 first_unary f k w _ a c i s first _ x (at_unary _ _ _ j _ _ p) (under _ _ b) = first j x p b
 first_unary f k w v a c i s first _ x (at_leaf _ _ _ _ p) b = absurd (not_first Here (Under i) b refl)
 
 first_straight : (f : Fit) (k : Slots → Option Slots) (o q : BinOp) (a b c d : Tree) (i n : Choice) (s m : Slots)
-  → Way f a c i s m
-  → ((j : Choice) (x : Slots) → Way f a c j s x → Before j i → find f b d k x ≡ None)
-  → ((j : Choice) (x : Slots) → Way f b d j m x → Before j n → k x ≡ None)
-  → (j : Choice) (x : Slots) → Way f (Binary o a b) (Binary q c d) j s x → Before j (Straight i n) → k x ≡ None
+    → Way f a c i s m
+    → ((j : Choice) (x : Slots) → Way f a c j s x → Before j i → find f b d k x ≡ None)
+    → ((j : Choice) (x : Slots) → Way f b d j m x → Before j n → k x ≡ None)
+    → (j : Choice) (x : Slots) → Way f (Binary o a b) (Binary q c d) j s x → Before j (Straight i n) → k x ≡ None
 first_straight f k o _ a b c d i n s m p left right _ x (straight _ _ _ _ _ j l _ y _ h g) (left_straight _ _ _ _ z) =
     find_none f b d k y (left j y h z) l x g
 first_straight f k o _ a b c d i n s m p left right _ x (straight _ _ _ _ _ j l _ y _ h g) (right_straight _ _ _ z) =
@@ -140,11 +140,11 @@ first_straight f k o _ a b c d i n s m p left right _ x (crossed _ _ _ _ _ _ j _
 first_straight f k o q a b c d i n s m p left right _ x (at_leaf _ _ _ _ h) z = absurd (not_first Here (Straight i n) z refl)
 
 first_crossed : (f : Fit) (k : Slots → Option Slots) (o q : BinOp) (a b c d : Tree) (i n : Choice) (s m : Slots)
-  → find f a c (find f b d k) s ≡ None
-  → Way f b c i s m
-  → ((j : Choice) (x : Slots) → Way f b c j s x → Before j i → find f a d k x ≡ None)
-  → ((j : Choice) (x : Slots) → Way f a d j m x → Before j n → k x ≡ None)
-  → (j : Choice) (x : Slots) → Way f (Binary o a b) (Binary q c d) j s x → Before j (Crossed i n) → k x ≡ None
+    → find f a c (find f b d k) s ≡ None
+    → Way f b c i s m
+    → ((j : Choice) (x : Slots) → Way f b c j s x → Before j i → find f a d k x ≡ None)
+    → ((j : Choice) (x : Slots) → Way f a d j m x → Before j n → k x ≡ None)
+    → (j : Choice) (x : Slots) → Way f (Binary o a b) (Binary q c d) j s x → Before j (Crossed i n) → k x ≡ None
 first_crossed f k o _ a b c d i n s m e p left right _ x (straight _ _ _ _ _ j l _ y _ h g) z =
     find_none f b d k y (find_none f a c (find f b d k) s e j y h) l x g
 first_crossed f k o _ a b c d i n s m e p left right _ x (crossed _ _ _ _ _ j l _ y _ t h g) (left_crossed _ _ _ _ z) =
@@ -155,44 +155,44 @@ first_crossed f k o q a b c d i n s m e p left right _ x (at_leaf _ _ _ _ h) z =
 
 found_load : (f : Fit) (k : Slots → Option Slots) (w v : Width) (a c : Tree) (s u : Slots) → w ≡ v → Found f a c k s u → Found f (Load w a) (Load v c) k s u
 found_load f k w v a c s u e h = record {
-    by = Under h.by;
-    to = h.to;
-    way = subst (λ (x : Width). Way f (Load w a) (Load x c) (Under h.by) s h.to) e (at_load w a c h.by s h.to h.way);
-    goes = h.goes;
-    first = first_load f k w v a c h.by s h.first
-  }
+  by = Under h.by;
+  to = h.to;
+  way = subst (λ (x : Width). Way f (Load w a) (Load x c) (Under h.by) s h.to) e (at_load w a c h.by s h.to h.way);
+  goes = h.goes;
+  first = first_load f k w v a c h.by s h.first;
+}
 
 found_unary : (f : Fit) (k : Slots → Option Slots) (w v : UnOp) (a c : Tree) (s u : Slots) → w ≡ v → Found f a c k s u → Found f (Unary w a) (Unary v c) k s u
 found_unary f k w v a c s u e h = record {
-    by = Under h.by;
-    to = h.to;
-    way = subst (λ (x : UnOp). Way f (Unary w a) (Unary x c) (Under h.by) s h.to) e (at_unary w a c h.by s h.to h.way);
-    goes = h.goes;
-    first = first_unary f k w v a c h.by s h.first
-  }
+  by = Under h.by;
+  to = h.to;
+  way = subst (λ (x : UnOp). Way f (Unary w a) (Unary x c) (Under h.by) s h.to) e (at_unary w a c h.by s h.to h.way);
+  goes = h.goes;
+  first = first_unary f k w v a c h.by s h.first;
+}
 
 found_straight : (f : Fit) (k : Slots → Option Slots) (o q : BinOp) (a b c d : Tree) (s u : Slots) → o ≡ q
-  → (h : Found f a c (find f b d k) s u) → Found f b d k h.to u → Found f (Binary o a b) (Binary q c d) k s u
+    → (h : Found f a c (find f b d k) s u) → Found f b d k h.to u → Found f (Binary o a b) (Binary q c d) k s u
 found_straight f k o q a b c d s u e h g = record {
-    by = Straight h.by g.by;
-    to = g.to;
-    way = subst (λ (x : BinOp). Way f (Binary o a b) (Binary x c d) (Straight h.by g.by) s g.to) e
-        (straight o a b c d h.by g.by s h.to g.to h.way g.way);
-    goes = g.goes;
-    first = first_straight f k o q a b c d h.by g.by s h.to h.way h.first g.first
-  }
+  by = Straight h.by g.by;
+  to = g.to;
+  way = subst (λ (x : BinOp). Way f (Binary o a b) (Binary x c d) (Straight h.by g.by) s g.to) e
+      (straight o a b c d h.by g.by s h.to g.to h.way g.way);
+  goes = g.goes;
+  first = first_straight f k o q a b c d h.by g.by s h.to h.way h.first g.first;
+}
 
 found_crossed : (f : Fit) (k : Slots → Option Slots) (o q : BinOp) (a b c d : Tree) (s u : Slots) → o ≡ q → commutes o ≡ true
-  → find f a c (find f b d k) s ≡ None
-  → (h : Found f b c (find f a d k) s u) → Found f a d k h.to u → Found f (Binary o a b) (Binary q c d) k s u
+    → find f a c (find f b d k) s ≡ None
+    → (h : Found f b c (find f a d k) s u) → Found f a d k h.to u → Found f (Binary o a b) (Binary q c d) k s u
 found_crossed f k o q a b c d s u e t n h g = record {
-    by = Crossed h.by g.by;
-    to = g.to;
-    way = subst (λ (x : BinOp). Way f (Binary o a b) (Binary x c d) (Crossed h.by g.by) s g.to) e
-        (crossed o a b c d h.by g.by s h.to g.to t h.way g.way);
-    goes = g.goes;
-    first = first_crossed f k o q a b c d h.by g.by s h.to n h.way h.first g.first
-  }
+  by = Crossed h.by g.by;
+  to = g.to;
+  way = subst (λ (x : BinOp). Way f (Binary o a b) (Binary x c d) (Crossed h.by g.by) s g.to) e
+      (crossed o a b c d h.by g.by s h.to g.to t h.way g.way);
+  goes = g.goes;
+  first = first_crossed f k o q a b c d h.by g.by s h.to n h.way h.first g.first;
+}
 
 pub find_some : (f : Fit) (r e : Tree) (k : Slots → Option Slots) (s u : Slots) → find f r e k s ≡ Some u → Found f r e k s u
 find_some f (Load w a) (Load v c) k s u g =
@@ -203,14 +203,14 @@ find_some f (Unary o a) (Unary p c) k s u g =
     found_unary f k o p a c s u (same_unary-is o p x.0) (find_some f a c k s u x.1)
 find_some f (Binary o a b) (Binary p c d) k s u g =
     let x = cond_some (same_binary o p)
-        (or_else (find f a c (find f b d k) s) (cond (commutes o) (find f b c (find f a d k) s) None)) u g in
+    (or_else (find f a c (find f b d k) s) (cond (commutes o) (find f b c (find f a d k) s) None)) u g in
     elim (or_some (find f a c (find f b d k) s) (cond (commutes o) (find f b c (find f a d k) s) None) u x.1) [
-      inl y ↦
-        (let h = find_some f a c (find f b d k) s u y in
-        found_straight f k o p a b c d s u (same_binary-is o p x.0) h (find_some f b d k h.to u h.goes))
-    | inr y ↦
-        (let z = cond_some (commutes o) (find f b c (find f a d k) s) u y.1 in
-        let h = find_some f b c (find f a d k) s u z.1 in
-        found_crossed f k o p a b c d s u (same_binary-is o p x.0) z.0 y.0 h (find_some f a d k h.to u h.goes))
+      | inl y ↦
+          (let h = find_some f a c (find f b d k) s u y in
+          found_straight f k o p a b c d s u (same_binary-is o p x.0) h (find_some f b d k h.to u h.goes))
+      | inr y ↦
+          (let z = cond_some (commutes o) (find f b c (find f a d k) s) u y.1 in
+          let h = find_some f b c (find f a d k) s u z.1 in
+          found_crossed f k o p a b c d s u (same_binary-is o p x.0) z.0 y.0 h (find_some f a d k h.to u h.goes))
     ]
 find_some f r e k s u g = found_leaf f r e k s u g

@@ -19,7 +19,7 @@ pub record IsAlikeMove (b : List Bound) (r e : Move) : Type 0 where
 pub data Takes (row : List Move) (b : List Bound) : Marks → List Move → Marks → Type 0 where
   all_taken : (used : Marks) → Takes row b used [] used
   taken : (e : Move) (es : List Move) (j : ℕ) (r : Move) (used left : Marks) → slice_get row j ≡ Some r → is_marked used j ≡ false
-    → IsAlikeMove b r e → Takes row b (set used j true) es left → Takes row b used (e ∷ es) left
+      → IsAlikeMove b r e → Takes row b (set used j true) es left → Takes row b used (e ∷ es) left
 
 -- whether hole h stands in a tree
 abbrev pub has_hole : ℕ → Tree → Bool

@@ -33,9 +33,9 @@ find f (Load w a) (Load v c) k s = cond (same_width w v) (find f a c k s) None
 find f (Unary o a) (Unary p c) k s = cond (same_unary o p) (find f a c k s) None
 find f (Binary o a b) (Binary p c d) k s =
     cond (same_binary o p)
-        (or_else (find f a c (find f b d k) s)
-            (cond (commutes o) (find f b c (find f a d k) s) None))
-        None
+    (or_else (find f a c (find f b d k) s)
+    (cond (commutes o) (find f b c (find f a d k) s) None))
+    None
 find f r e k s = then_go (leaf f r e s) k
 
 abbrev pub size : Tree → ℕ

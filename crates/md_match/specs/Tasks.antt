@@ -13,8 +13,12 @@ use Rattle.md_match.specs.declared.search.Todo.TheVariants.{Done, Pair'}
 
 abbrev pub search_of : Task → Search
 search_of t = record {
-    fit = fit_of t.bits t.general t.holes.now; count = length t.holes.now; flags = t.flags; barred = t.barred; row = t.row.now
-  }
+  fit = fit_of t.bits t.general t.holes.now;
+  count = length t.holes.now;
+  flags = t.flags;
+  barred = t.barred;
+  row = t.row.now;
+}
 
 -- what the assignments without a mark must be
 abbrev pub idle_of : Task → Move → Bool

@@ -23,9 +23,9 @@ pub data Way (f : Fit) : Tree → Tree → Choice → Slots → Slots → Type 0
   at_load : (w : Width) (a c : Tree) (i : Choice) (s t : Slots) → Way f a c i s t → Way f (Load w a) (Load w c) (Under i) s t
   at_unary : (o : UnOp) (a c : Tree) (i : Choice) (s t : Slots) → Way f a c i s t → Way f (Unary o a) (Unary o c) (Under i) s t
   straight : (o : BinOp) (a b c d : Tree) (i j : Choice) (s m t : Slots)
-    → Way f a c i s m → Way f b d j m t → Way f (Binary o a b) (Binary o c d) (Straight i j) s t
+      → Way f a c i s m → Way f b d j m t → Way f (Binary o a b) (Binary o c d) (Straight i j) s t
   crossed : (o : BinOp) (a b c d : Tree) (i j : Choice) (s m t : Slots) → commutes o ≡ true
-    → Way f b c i s m → Way f a d j m t → Way f (Binary o a b) (Binary o c d) (Crossed i j) s t
+      → Way f b c i s m → Way f a d j m t → Way f (Binary o a b) (Binary o c d) (Crossed i j) s t
 
 -- the order of lists of choices: outer nodes before inner ones, left ones before right ones, unswapped before swapped
 pub data Before : Choice → Choice → Type 0 where
@@ -53,10 +53,10 @@ pub data Choices : Type 0 where
 pub data Ways (t : Search) : List Move → Choices → Marks → Slots → Marks → Slots → Type 0 where
   ended : (used : Marks) (s : Slots) → Ways t [] Ended used s used s
   next : (e : Move) (es : List Move) (j : ℕ) (r : Move) (p v : Choice) (cs : Choices) (used : Marks) (s a b : Slots) (left : Marks) (u : Slots)
-    → slice_get t.row j ≡ Some r → is_marked used j ≡ false
-    → Way t.fit (goal_tree r.to) (goal_tree e.to) p s a → Way t.fit r.value e.value v a b
-    → Ways t es cs (set used j true) b left u
-    → Ways t (e ∷ es) (Next j p v cs) used s left u
+      → slice_get t.row j ≡ Some r → is_marked used j ≡ false
+      → Way t.fit (goal_tree r.to) (goal_tree e.to) p s a → Way t.fit r.value e.value v a b
+      → Ways t es cs (set used j true) b left u
+      → Ways t (e ∷ es) (Next j p v cs) used s left u
 
 -- the order: by the place for the first assignment, then the choices in its place and in its value, then the next assignment's
 pub data Earlier : Choices → Choices → Type 0 where

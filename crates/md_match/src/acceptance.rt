@@ -211,7 +211,8 @@ fn are_traps_marked(row: &[Assign], used: &Marks, slots: &Slots, e: &Expr) -> bo
     ensures { result ≡ traps_pass (in_marked (fill slots.now) row.now used.now) (tree_of e.now) }
 {
     match e {
-        Expr::Mem(_, a) => is_in_marked(row, used, slots, e) && are_traps_marked(row, used, slots, a),
+        Expr::Mem(_, a) => is_in_marked(row, used, slots, e)
+            && are_traps_marked(row, used, slots, a),
         Expr::Un(o, a) => {
             if can_unary_trap(*o) && !is_in_marked(row, used, slots, e) {
                 return false;
@@ -235,11 +236,18 @@ pub struct Demands {
     pub barred: u64,
 }
 
-fn is_harmless(demands: Demands, row: &[Assign], used: &Marks, slots: &Slots, assign: &Assign) -> bool
+fn is_harmless(
+    demands: Demands,
+    row: &[Assign],
+    used: &Marks,
+    slots: &Slots,
+    assign: &Assign,
+) -> bool
     requires { length row.now ≤ 6 }
     ensures { result ≡ harmless (is_idle_by demands.flags demands.barred) (in_marked (fill slots.now) row.now used.now) assign.now }
 {
-    is_idle(demands.flags, demands.barred, assign) && are_traps_marked(row, used, slots, &assign.value)
+    is_idle(demands.flags, demands.barred, assign)
+        && are_traps_marked(row, used, slots, &assign.value)
 }
 
 fn are_others_harmless(demands: Demands, row: &[Assign], used: &Marks, slots: &Slots) -> bool
@@ -321,7 +329,13 @@ fn are_apart(slots: &Slots, row: &[Assign]) -> bool
 
 /// Whether the first `count` holes are all bound, the assignments without a mark are harmless (to the flags and without the registers
 /// that `demands` says, and trapping only where a marked one does), and no two assigned registers become one.
-pub fn is_accepted(demands: Demands, count: usize, row: &[Assign], used: &Marks, slots: &Slots) -> bool
+pub fn is_accepted(
+    demands: Demands,
+    count: usize,
+    row: &[Assign],
+    used: &Marks,
+    slots: &Slots,
+) -> bool
     requires holes { count ≤ 8 }
     requires row { length row.now ≤ 6 }
     ensures { result ≡ accepted count (is_idle_by demands.flags demands.barred) row.now used.now slots.now }

@@ -30,9 +30,14 @@ pub fn fits(bits: u32, general: u64, hole: Hole, bound: Bound) -> bool
     match (hole, bound) {
         (Hole::Reg(class), Bound::Reg(Cell::Hard(k))) => k < 64 && has_bit(class, k),
         (Hole::Reg(class), Bound::Reg(Cell::Temp(_))) => class & general == general,
-        (Hole::Num { low, high, inverted }, Bound::Num(n)) => {
-            is_word(bits, n) && number_of_word(bits, low, high, inverted, n).is_some()
-        }
+        (
+            Hole::Num {
+                low,
+                high,
+                inverted,
+            },
+            Bound::Num(n),
+        ) => { is_word(bits, n) && number_of_word(bits, low, high, inverted, n).is_some() }
         (Hole::Sym, Bound::Sym(_)) => true,
         (Hole::Label, Bound::Label(_)) => true,
         _ => false,

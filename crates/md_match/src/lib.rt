@@ -18,5 +18,9 @@ pub use acceptance::{
 pub use fitting::{fits, fits_at, has_bit};
 pub use search::{Task, first_match};
 pub use slots::{
-    Marks, NO_MARKS, NO_SLOTS, Slots, is_same_binary, is_same_bound, is_same_unary, is_same_width, put,
+    Marks, NO_MARKS, NO_SLOTS, Slots, is_same_binary, is_same_bound, is_same_unary, is_same_width,
+    put,
 };
+
+#[cfg(test)]
+mod tests;

@@ -6,7 +6,6 @@ ghost use Rattle.md_match.specs.Slots.{no_slots};
 ghost use Rattle.md_match.specs.Find.{find};
 ghost use Rattle.md_match.specs.Searches.{accept as accept_by, match_all, no_marks, one};
 ghost use Rattle.md_match.specs.Tasks.{rest, IsTask, search_of};
-
 ghost use Rattle.std.specs.Prelude.{List, MatchOption};
 ghost use Rattle.md_rows.specs.declared.instance.Bound.{Bound};
 ghost use Rattle.md_match.specs.Searches.{Marks};
@@ -14,7 +13,9 @@ ghost use Rattle.md_match.specs.Does.{Does, IsDone};
 ghost use Rattle.md_match.specs.Tasks.{idle_of};
 
 use crate::acceptance::{Demands, is_accepted};
-use crate::slots::{Marks, NO_MARKS, NO_SLOTS, Slots, compare, is_same_binary, is_same_unary, is_same_width};
+use crate::slots::{
+    Marks, NO_MARKS, NO_SLOTS, Slots, compare, is_same_binary, is_same_unary, is_same_width,
+};
 use md_rows::Hole;
 use rtl_tree::{Assign, Expr, Place, is_commutative};
 
@@ -43,7 +44,10 @@ fn accept(t: &Task, used: Marks, slots: Slots) -> Option<Slots>
     requires { IsTask t.now }
     ensures { result ≡ accept_by (search_of t.now) used slots }
 {
-    let demands = Demands { flags: t.flags, barred: t.barred };
+    let demands = Demands {
+        flags: t.flags,
+        barred: t.barred,
+    };
     if is_accepted(demands, t.holes.len(), t.row, &used, &slots) {
         Some(slots)
     } else {
@@ -58,10 +62,18 @@ fn go(t: &Task, row: &Expr, e: &Expr, then: &Todo, slots: Slots) -> Option<Slots
 {
     match (row, e) {
         (Expr::Mem(w, a), Expr::Mem(v, c)) => {
-            if is_same_width(*w, *v) { go(t, a, c, then, slots) } else { None }
+            if is_same_width(*w, *v) {
+                go(t, a, c, then, slots)
+            } else {
+                None
+            }
         }
         (Expr::Un(o, a), Expr::Un(p, c)) => {
-            if is_same_unary(*o, *p) { go(t, a, c, then, slots) } else { None }
+            if is_same_unary(*o, *p) {
+                go(t, a, c, then, slots)
+            } else {
+                None
+            }
         }
         (Expr::Bin(o, a, b), Expr::Bin(p, c, d)) => {
             if !is_same_binary(*o, *p) {
@@ -130,10 +142,21 @@ fn pair(t: &Task, r: &Assign, e: &Assign, then: &Todo, slots: Slots) -> Option<S
     let then = Todo::Pair(&r.value, &e.value, &*then);
     match (&r.to, &e.to) {
         (Place::Mem(w, a), Place::Mem(v, c)) => {
-            if is_same_width(*w, *v) { go(t, a, c, &then, slots) } else { None }
+            if is_same_width(*w, *v) {
+                go(t, a, c, &then, slots)
+            } else {
+                None
+            }
         }
         (Place::Cell(c), Place::Cell(d)) => {
-            match compare(t.bits, t.general, t.holes, &Expr::Cell(*c), &Expr::Cell(*d), slots) {
+            match compare(
+                t.bits,
+                t.general,
+                t.holes,
+                &Expr::Cell(*c),
+                &Expr::Cell(*d),
+                slots,
+            ) {
                 Some(slots) => next(t, &then, slots),
                 None => None,
             }

@@ -67,7 +67,14 @@ fn value_of(e: &Expr) -> Option<Bound>
 /// The slots once a value stands in a hole. None where there is no such hole, where another value stands in it already, or where the
 /// value doesn't fit.
 #[tactic(auto, unfolding(crate::specs::Slots::put))]
-pub fn put(bits: u32, general: u64, holes: &[Hole], place: u8, bound: Option<Bound>, slots: Slots) -> Option<Slots>
+pub fn put(
+    bits: u32,
+    general: u64,
+    holes: &[Hole],
+    place: u8,
+    bound: Option<Bound>,
+    slots: Slots,
+) -> Option<Slots>
     requires size { IsWordSize bits }
     ensures { result ≡ put_in_slots (fit_of bits general holes.now) place bound slots }
 {
@@ -96,7 +103,14 @@ pub fn put(bits: u32, general: u64, holes: &[Hole], place: u8, bound: Option<Bou
 
 // A leaf of the row against a tree: a hole takes the tree's value, and another leaf is to be the tree.
 #[tactic(auto, unfolding(crate::specs::Find::leaf))]
-pub(crate) fn compare(bits: u32, general: u64, holes: &[Hole], row: &Expr, e: &Expr, slots: Slots) -> Option<Slots>
+pub(crate) fn compare(
+    bits: u32,
+    general: u64,
+    holes: &[Hole],
+    row: &Expr,
+    e: &Expr,
+    slots: Slots,
+) -> Option<Slots>
     requires size { IsWordSize bits }
     ensures { result ≡ leaf_against (fit_of bits general holes.now) (tree_of row.now) (tree_of e.now) slots }
 {
@@ -106,7 +120,11 @@ pub(crate) fn compare(bits: u32, general: u64, holes: &[Hole], row: &Expr, e: &E
         (Expr::NameHole(h), _) => put(bits, general, holes, *h, value_of(e), slots),
         (Expr::Num(n), Expr::Num(m)) => if n == m { Some(slots) } else { None },
         (Expr::Sym(n), Expr::Sym(m)) => if n == m { Some(slots) } else { None },
-        (Expr::Label(l), Expr::Label(m)) => if is_same_label(*l, *m) { Some(slots) } else { None },
+        (Expr::Label(l), Expr::Label(m)) => if is_same_label(*l, *m) {
+            Some(slots)
+        } else {
+            None
+        },
         (Expr::Cell(c), Expr::Cell(d)) => if is_same(*c, *d) { Some(slots) } else { None },
         (Expr::Lost, Expr::Lost) => Some(slots),
         _ => None,

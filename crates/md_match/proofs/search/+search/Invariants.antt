@@ -20,4 +20,4 @@ decreases-pair l = 1 + size (goal_tree l.e.now.to) + size l.e.now.value + todo_s
 abbrev pub invariant-assign-loop-j : goal.invariant-assign-loop-j
 invariant-assign-loop-j l =
     pick (search_of l.t).fit (drop l.j l.t.row.now) l.j l.e l.used (match_all (search_of l.t) (drop (l.i + 1) l.t.goal.now)) l.slots
-      ≡ match_all (search_of l.t) (drop l.i l.t.goal.now) l.used l.slots
+    ≡ match_all (search_of l.t) (drop l.i l.t.goal.now) l.used l.slots

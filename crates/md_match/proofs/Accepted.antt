@@ -1,10 +1,9 @@
 -- What is accepted: the assignments without a mark, by place.
-use Rattle.std.proofs.Common.{◌≡◌, ◌⊎◌, ℕ, zero, suc, ◌+◌, ◌<◌, ◌≤◌, Bool, true, false, not, ◌&&◌, ◌||◌, List, [], ◌∷◌, length, set, slice_get, Option, Some, None, inl, inr, refl, sym, subst, ap, arith, ◌∙◌}
-use Rattle.rtl_tree.specs.Trees.{Tree, Number, Symbol, CodeLabel, Read, Load, Unary, Binary, NoPair, AnyNumber, AnyName}
+use Rattle.std.proofs.Common.{◌≡◌, ℕ, zero, suc, ◌≤◌, Bool, true, false, not, ◌&&◌, ◌||◌, List, [], ◌∷◌, length, slice_get, Some, None, inl, inr, refl, sym, subst, arith}
+use Rattle.rtl_tree.specs.Trees.{Tree, Load, Unary, Binary}
 use Rattle.rtl_tree.specs.Moves.{Move}
-use Rattle.rtl_tree.specs.declared.cells.Cell.TheVariants.{Hole as RegisterHole}
 use Rattle.rtl_tree.proofs.Equality.{and_left, and_right, and_both}
-use Rattle.md_match.specs.Searches.{Marks, is_marked, goal_tree, unary_traps, binary_traps, traps_pass, occurs_by, occurs_in_move, in_marked, others_pass}
+use Rattle.md_match.specs.Searches.{Marks, is_marked, unary_traps, binary_traps, traps_pass, occurs_in_move, in_marked, others_pass}
 use Rattle.md_match.specs.Does.{AllTraps, HasHolesBelow, IsMarked}
 use Rattle.md_match.proofs.Binding.{or_true}
 

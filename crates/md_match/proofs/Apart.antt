@@ -1,5 +1,5 @@
 -- No two assigned registers become one: the test, and the fact.
-use Rattle.std.proofs.Common.{◌≡◌, ◌≢◌, ◌⊎◌, ℕ, zero, suc, ◌<◌, Bool, true, false, not, ◌&&◌, List, [], ◌∷◌, length, slice_get, get_or, Option, Some, None, inl, inr, refl, sym, subst, ap, arith, ◌∙◌}
+use Rattle.std.proofs.Common.{◌≡◌, ◌≢◌, ℕ, zero, suc, Bool, true, false, not, List, [], ◌∷◌, slice_get, get_or, Option, Some, None, refl, sym, subst, ap, arith, ◌∙◌}
 use Rattle.std.specs.Prelude.{AllPairs, filter_map}
 use Rattle.std.specs.List.{All, cons_option}
 use Rattle.std.proofs.lemmas.Option.{slice_get_within, slice_get-get_or, get_or_from_slice_get}
@@ -15,7 +15,7 @@ use Rattle.md_rows.specs.declared.instance.Bound.TheVariants.{Reg, Num, Sym, Lab
 use Rattle.md_rows.specs.Instances.{filled_goal, assigned_register, register_by}
 use Rattle.md_match.specs.Slots.{Slots}
 use Rattle.md_match.specs.Searches.{goal_tree, held_register, assigned_by, same_register, apart_from, all_apart}
-use Rattle.md_match.specs.Does.{HasHolesBelow, assigned}
+use Rattle.md_match.specs.Does.{HasHolesBelow}
 use Rattle.md_match.proofs.Binding.{Holds}
 
 held_same : (h : ℕ) (v : Bound) → held_register (Some (Some v)) ≡ assigned_register (ToCell (register_by (RegisterHole h) (Some v)))

@@ -1,13 +1,10 @@
 -- Bindings and slots: what the holes hold, and the trees that they fill.
-use Rattle.std.proofs.Common.{◌≡◌, ◌⊎◌, ℕ, zero, suc, ◌+◌, ◌<◌, ◌≤◌, Bool, true, false, ◌&&◌, ◌||◌, ◌==◌, List, [], ◌∷◌, map, length, take, set, slice_get, Option, Some, None, inl, inr, refl, sym, subst, ap, arith, ◌∙◌}
+use Rattle.std.proofs.Common.{◌≡◌, ◌⊎◌, ℕ, zero, suc, ◌<◌, ◌≤◌, Bool, true, false, ◌||◌, List, [], ◌∷◌, map, length, take, slice_get, Option, Some, None, inl, inr, refl, sym, subst, ap, arith, ◌∙◌}
 use Rattle.std.proofs.lemmas.Option.{slice_get_within}
 use Rattle.std.proofs.lemmas.List.{length-take-le}
 use Rattle.std.proofs.lemmas.Bool.{eqb-true}
-use Rattle.std.specs.Prelude.{IsTrue, option_map}
 use Rattle.rtl_tree.specs.Trees.{Tree, Number, Symbol, CodeLabel, Read, Load, Unary, Binary, NoPair, AnyNumber, AnyName}
-use Rattle.rtl_tree.specs.declared.cells.Cell.{Cell}
 use Rattle.rtl_tree.specs.declared.cells.Cell.TheVariants.{Hard, Temp, Flag, Pc, Input, Output, Halt, Hole as RegisterHole}
-use Rattle.rtl_tree.specs.Same.{same_tree}
 use Rattle.md_rows.specs.declared.row.Hole.{Hole}
 use Rattle.md_rows.specs.declared.row.Hole.TheVariants.{Reg as RegHole, Num as NumHole, Sym as SymHole, Label as LabelHole}
 use Rattle.md_rows.specs.declared.instance.Bound.{Bound}
@@ -15,9 +12,9 @@ use Rattle.md_rows.specs.declared.instance.Bound.TheVariants.{Reg, Num, Sym, Lab
 use Rattle.md_rows.specs.Fits.{fits}
 use Rattle.md_rows.specs.Instances.{leaf_of, held_by, filled, AllFit}
 use Rattle.md_match.specs.Slots.{Slots, no_slots, Fit, bound_of, fit_at, fit_of}
-use Rattle.md_match.specs.Searches.{fill, filled_with, is_held, all_held, occurs_by, occurs_in_move, goal_tree}
+use Rattle.md_match.specs.Searches.{fill, filled_with, all_held, occurs_by}
 use Rattle.md_match.specs.Does.{has_hole, HasHolesBelow, known}
-use Rattle.md_match.proofs.Filling.{IsHeld, IsFilled, IsFit, IsSane}
+use Rattle.md_match.proofs.Filling.{IsHeld, IsFilled, IsSane}
 
 -- the first n holes hold in u what b binds them to
 pub record Holds (n : ℕ) (u : Slots) (b : List Bound) : Type 0 where

@@ -4,7 +4,7 @@ use Rattle.rtl_tree.specs.Moves.{Move}
 use Rattle.md_match.specs.Slots.{Slots, Fit}
 use Rattle.md_match.specs.Find.{find, or_else}
 use Rattle.md_match.specs.Searches.{Marks, Search, is_marked, accept, match_all, pick, one, goal_tree}
-use Rattle.md_match.specs.Ways.{Choice, Way, Before, Found, Choices, Ended, Next, Ways, ended, next, Earlier, by_place, by_goal, by_value, by_rest, FoundAll}
+use Rattle.md_match.specs.Ways.{Choice, Way, Before, Choices, Ended, Next, Ways, ended, next, Earlier, by_place, by_goal, by_value, by_rest, FoundAll}
 use Rattle.md_match.proofs.Ways.{find_none, find_some, way_same}
 
 both_none : (x y : Option Slots) → or_else x y ≡ None → (x ≡ None) × (y ≡ None)

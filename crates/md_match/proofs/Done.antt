@@ -1,25 +1,24 @@
 -- What the search finds makes the row do the transfer.
-use Rattle.std.proofs.Common.{◌≡◌, ◌⊎◌, ℕ, zero, suc, ◌+◌, ◌<◌, ◌≤◌, ◌==◌, Bool, true, false, cond, ◌&&◌, ◌||◌, List, [], ◌∷◌, length, take, set, slice_get, get_or, Option, Some, None, inl, inr, refl, sym, subst, ap, arith, ◌∙◌, eq-eqb}
+use Rattle.std.proofs.Common.{◌≡◌, ◌⊎◌, ℕ, zero, suc, ◌<◌, ◌≤◌, ◌==◌, Bool, true, false, cond, ◌&&◌, ◌||◌, List, [], ◌∷◌, length, take, set, slice_get, Option, Some, None, inl, inr, refl, sym, subst, ap, arith, ◌∙◌, eq-eqb}
 use Rattle.std.proofs.lemmas.Option.{slice_get_within}
-use Rattle.std.proofs.lemmas.List.{length-set, length-take-le, get_or-set_same, get_or-set_other}
-use Rattle.rtl_tree.specs.Trees.{Tree, Number, Symbol, CodeLabel, Read, Load, Unary, Binary, NoPair, AnyNumber, AnyName}
+use Rattle.std.proofs.lemmas.List.{length-set, length-take-le}
+use Rattle.rtl_tree.specs.Trees.{Tree, Number, Symbol, CodeLabel, Read, NoPair, AnyNumber, AnyName}
 use Rattle.rtl_tree.specs.Moves.{Move}
 use Rattle.rtl_tree.specs.Same.{same_cell, same_label}
 use Rattle.rtl_tree.specs.Likeness.{IsAlike}
-use Rattle.rtl_tree.specs.declared.cells.Cell.{Cell}
 use Rattle.rtl_tree.specs.declared.cells.Cell.TheVariants.{Hard, Temp, Flag, Pc, Input, Output, Halt, Hole as RegisterHole}
 use Rattle.rtl_tree.proofs.Equality.{and_left, and_right}
 use Rattle.md_rows.specs.declared.row.Hole.{Hole}
 use Rattle.md_rows.specs.declared.instance.Bound.{Bound}
-use Rattle.md_rows.specs.Instances.{filled, AllFit}
-use Rattle.md_match.specs.Slots.{Slots, no_slots, Fit, bound_of, fit_of, put, put_in, put_slot, same_bound}
+use Rattle.md_rows.specs.Instances.{filled}
+use Rattle.md_match.specs.Slots.{Slots, no_slots, Fit, bound_of, fit_of, put, put_slot, same_bound}
 use Rattle.md_match.specs.Find.{leaf}
-use Rattle.md_match.specs.Searches.{Marks, no_marks, is_marked, goal_tree, fill, Search, accept, is_accepted, is_idle, harmless, in_marked, others_pass, traps_pass, all_apart, all_held, match_all, occurs_by, occurs_in_move}
-use Rattle.md_match.specs.Ways.{Choice, Way, at_leaf, at_load, at_unary, straight, crossed, Choices, Ways, ended, next, FoundAll}
-use Rattle.md_match.specs.Does.{IsAlikeMove, Takes, all_taken, taken, has_hole, IsMarked, IsHoleOfMarked, IsPartOfMarked, AllTraps, Does, HasHolesBelow, IsRow, assigned, known, IsDone}
-use Rattle.md_match.proofs.Filling.{Alike, IsHeld, IsFilled, Grows, IsFit, to_alike}
-use Rattle.md_match.proofs.Sound.{Sound, get_same, get_other, same_or_not, grows_on, filled_on, alike_on, way_sound}
-use Rattle.md_match.proofs.Binding.{Holds, fill_filled, known_holds, known_at, known_length, taken_at, fit_all, occurs_same, none_held, or_true}
+use Rattle.md_match.specs.Searches.{Marks, no_marks, is_marked, goal_tree, fill, Search, accept, is_accepted, is_idle, harmless, in_marked, others_pass, traps_pass, all_apart, all_held, match_all}
+use Rattle.md_match.specs.Ways.{Choice, Way, at_leaf, at_load, at_unary, straight, crossed, Choices, Ways, ended, next}
+use Rattle.md_match.specs.Does.{Takes, all_taken, taken, has_hole, IsMarked, IsHoleOfMarked, IsPartOfMarked, HasHolesBelow, IsRow, assigned, known, IsDone}
+use Rattle.md_match.proofs.Filling.{Alike, IsFilled, Grows, IsFit, to_alike}
+use Rattle.md_match.proofs.Sound.{get_other, same_or_not, grows_on, alike_on, way_sound}
+use Rattle.md_match.proofs.Binding.{Holds, fill_filled, known_holds, known_at, known_length, taken_at, fit_all, occurs_same, none_held}
 use Rattle.md_match.proofs.Apart.{assigned_same, apart_pairs}
 use Rattle.md_match.proofs.Accepted.{Occurs, others_at, marked_occurs, all_traps}
 use Rattle.md_match.proofs.Choices.{match_some}

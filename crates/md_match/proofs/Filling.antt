@@ -1,11 +1,8 @@
 -- What stands in the holes of a row's tree, and how slots grow.
-use Rattle.std.proofs.Common.{◌≡◌, ◌⊎◌, ℕ, Bool, true, false, Option, Some, None, slice_get, inl, inr, refl, subst, sym}
+use Rattle.std.proofs.Common.{◌≡◌, ◌⊎◌, ℕ, true, Some, slice_get, inl, inr, refl, subst}
 use Rattle.rtl_tree.specs.Trees.{Tree, Number, Symbol, CodeLabel, Read, Load, Unary, Binary, NoPair, AnyNumber, AnyName}
 use Rattle.rtl_tree.specs.Likeness.{commutes, IsAlike, equal, loads, unaries, straight, crossed}
 use Rattle.rtl_tree.specs.declared.cells.Cell.TheVariants.{Hole as RegisterHole}
-use Rattle.rtl_tree.specs.declared.expressions.Width.{Width}
-use Rattle.rtl_tree.specs.declared.expressions.UnOp.{UnOp}
-use Rattle.rtl_tree.specs.declared.expressions.BinOp.{BinOp}
 use Rattle.md_rows.specs.declared.instance.Bound.{Bound}
 use Rattle.md_rows.specs.Instances.{leaf_of}
 use Rattle.md_match.specs.Slots.{Slots, Fit, bound_of}

@@ -1,9 +1,8 @@
 -- Leaves of rows, filled, and what occurs in a tree.
-use Rattle.std.proofs.Common.{◌≡◌, Bool, true, false, ◌||◌, Option, Some, None, is_some, refl, sym, ap, ◌∙◌}
+use Rattle.std.proofs.Common.{◌≡◌, Bool, true, false, ◌||◌, Option, Some, None, is_some, refl, sym}
 use Rattle.std.specs.Prelude.{slice_get}
 use Rattle.rtl_tree.specs.Trees.{Tree, Number, Symbol, CodeLabel, Read, Load, Unary, Binary, NoPair, AnyNumber, AnyName, tree_of}
 use Rattle.rtl_tree.specs.Same.{same_tree}
-use Rattle.rtl_tree.specs.declared.cells.Cell.{Cell as CellType}
 use Rattle.rtl_tree.specs.declared.cells.Cell.TheVariants.{Hard, Temp, Flag, Pc, Input, Output, Halt, Hole as RegisterHole}
 use Rattle.rtl_tree.specs.declared.expressions.Width.{Width}
 use Rattle.rtl_tree.specs.declared.expressions.UnOp.{UnOp}

@@ -1,14 +1,13 @@
 -- The steps of the search for an assignment of the row.
-use Rattle.std.proofs.Common.{◌≡◌, ◌⊎◌, ℕ, suc, ◌+◌, ◌<◌, Bool, true, false, cond, Option, Some, None, List, ◌∷◌, length, drop, get_or, set, refl, sym, subst, ap, arith, add-one, drop-cons, ◌∙◌, is_some}
+use Rattle.std.proofs.Common.{◌≡◌, ℕ, suc, ◌+◌, ◌<◌, Bool, true, false, cond, Option, Some, None, List, ◌∷◌, length, drop, get_or, set, refl, sym, subst, ap, arith, drop-cons, ◌∙◌, is_some}
 use Rattle.rtl_tree.specs.Trees.{Tree, Load, Read}
 use Rattle.rtl_tree.specs.declared.cells.Cell.{Cell}
 use Rattle.rtl_tree.specs.declared.cells.Cell.TheVariants.{Hard, Temp, Flag, Pc, Input, Output, Halt, Hole as RegisterHole}
 use Rattle.rtl_tree.specs.declared.expressions.Width.{Width}
 use Rattle.rtl_tree.specs.Moves.{Move, ToCell, ToMemory}
 use Rattle.md_match.specs.Slots.{Slots, Fit, put}
-use Rattle.md_match.specs.Find.{find, or_else, then_go, leaf, size}
-use Rattle.md_match.proofs.Size.{has_size}
-use Rattle.md_match.specs.Searches.{Marks, goal_tree, pick, one, is_marked, moves_size, move_size}
+use Rattle.md_match.specs.Find.{or_else, leaf}
+use Rattle.md_match.specs.Searches.{Marks, pick, one, is_marked}
 
 pick_step : (f : Fit) (rs : List Move) (j : ℕ) (e x : Move) (used : Marks) (k : Marks → Slots → Option Slots) (s : Slots) → j < length rs
     → pick f (drop j rs) j e used k s

@@ -1,24 +1,18 @@
 -- What a way leaves fills the row's tree so that it is alike the tree.
-use Rattle.std.proofs.Common.{◌≡◌, ◌⊎◌, ℕ, zero, suc, ◌==◌, Bool, true, false, cond, Option, Some, None, List, [], ◌∷◌, slice_get, set, inl, inr, refl, sym, subst, ap, arith}
+use Rattle.std.proofs.Common.{◌≡◌, ◌⊎◌, ℕ, zero, suc, ◌==◌, Bool, true, false, cond, Option, Some, None, [], ◌∷◌, slice_get, set, inl, inr, refl, sym, subst, ap, arith}
 use Rattle.std.proofs.lemmas.Bool.{eqb-true}
 use Rattle.rtl_tree.specs.Trees.{Tree, Number, Symbol, CodeLabel, Read, Load, Unary, Binary, NoPair, AnyNumber, AnyName}
-use Rattle.rtl_tree.specs.declared.cells.Cell.{Cell}
 use Rattle.rtl_tree.specs.declared.cells.Cell.TheVariants.{Hard, Temp, Flag, Pc, Input, Output, Halt, Hole as RegisterHole}
-use Rattle.rtl_tree.specs.declared.cells.Lab.{Lab}
-use Rattle.rtl_tree.specs.declared.expressions.Width.{Width}
-use Rattle.rtl_tree.specs.declared.expressions.UnOp.{UnOp}
-use Rattle.rtl_tree.specs.declared.expressions.BinOp.{BinOp}
-use Rattle.rtl_tree.specs.Likeness.{commutes}
 use Rattle.rtl_tree.specs.Same.{same_cell, same_label}
 use Rattle.rtl_tree.proofs.Equality.{same_cell-is, same_label-is}
 use Rattle.md_rows.specs.declared.instance.Bound.{Bound}
 use Rattle.md_rows.specs.declared.instance.Bound.TheVariants.{Reg, Num, Sym, Label}
 use Rattle.md_rows.specs.Instances.{leaf_of}
-use Rattle.md_match.specs.Slots.{Slots, Fit, put, put_in, put_slot, bound_of, same_bound}
+use Rattle.md_match.specs.Slots.{Slots, Fit, put, put_slot, bound_of, same_bound}
 use Rattle.md_match.specs.Find.{leaf}
 use Rattle.md_match.specs.Searches.{filled_with, fill}
-use Rattle.md_match.specs.Ways.{Choice, Here, Under, Straight, Crossed, Way, at_leaf, at_load, at_unary, straight, crossed}
-use Rattle.md_match.proofs.Filling.{Alike, IsHeld, IsFilled, Grows, IsFit, IsSane}
+use Rattle.md_match.specs.Ways.{Choice, Way, at_leaf, at_load, at_unary, straight, crossed}
+use Rattle.md_match.proofs.Filling.{Alike, IsHeld, IsFilled, Grows, IsFit}
 
 clash : (u : Slots) → None ≡ Some u → ⊥
 clash u e = cc

@@ -1,25 +1,24 @@
 -- Where the search finds nothing, no binding makes the row do the transfer.
-use Rattle.std.proofs.Common.{◌≡◌, ◌⊎◌, ℕ, zero, suc, ◌+◌, ◌<◌, ◌≤◌, ◌==◌, Bool, true, false, cond, ◌&&◌, ◌||◌, List, [], ◌∷◌, map, length, take, set, slice_get, Option, Some, None, inl, inr, refl, sym, subst, ap, arith, ◌∙◌}
-use Rattle.std.proofs.lemmas.Option.{slice_get_within}
+use Rattle.std.proofs.Common.{◌≡◌, ℕ, zero, suc, ◌<◌, ◌≤◌, Bool, true, false, cond, ◌&&◌, ◌||◌, List, [], ◌∷◌, map, length, take, set, slice_get, Some, None, inl, inr, refl, sym, subst, ap, arith, ◌∙◌}
 use Rattle.rtl_tree.specs.Trees.{Tree}
 use Rattle.rtl_tree.specs.Moves.{Move}
 use Rattle.rtl_tree.specs.Likeness.{IsAlike}
 use Rattle.rtl_tree.proofs.Equality.{and_both}
 use Rattle.md_rows.specs.declared.row.Hole.{Hole}
 use Rattle.md_rows.specs.declared.instance.Bound.{Bound}
-use Rattle.md_rows.specs.Instances.{filled, AllFit}
+use Rattle.md_rows.specs.Instances.{filled}
 use Rattle.md_match.specs.Slots.{Slots, no_slots, Fit, fit_of}
-use Rattle.md_match.specs.Searches.{Marks, no_marks, is_marked, goal_tree, fill, Search, accept, is_accepted, is_idle, harmless, in_marked, others_pass, traps_pass, all_apart, all_held, match_all, occurs_by, occurs_in_move}
-use Rattle.md_match.specs.Ways.{Choice, Way, Choices, Ended, Next, Ways, ended, next}
-use Rattle.md_match.specs.Does.{IsAlikeMove, Takes, all_taken, taken, has_hole, IsMarked, IsHoleOfMarked, IsPartOfMarked, AllTraps, Does, HasHolesBelow, IsRow, assigned}
-use Rattle.md_match.proofs.Filling.{Alike, IsHeld, IsFilled, Grows, IsFit, IsSane, from_alike}
+use Rattle.md_match.specs.Searches.{Marks, no_marks, is_marked, goal_tree, fill, Search, accept, is_idle, harmless, in_marked, others_pass, traps_pass, all_apart, all_held, match_all, occurs_in_move}
+use Rattle.md_match.specs.Ways.{Choices, Ended, Next, Ways, ended, next}
+use Rattle.md_match.specs.Does.{Takes, all_taken, taken, has_hole, IsMarked, IsPartOfMarked, Does, HasHolesBelow, IsRow, assigned}
+use Rattle.md_match.proofs.Filling.{Alike, IsHeld, IsFilled, IsFit, IsSane, from_alike}
 use Rattle.md_match.proofs.Sound.{same_or_not, grows_on, filled_on, way_sound}
 use Rattle.md_match.proofs.Whole.{IsPartOf, Reached, way_whole}
 use Rattle.md_match.proofs.Binding.{Holds, fill_filled, own_holds, held_in_own, filled_has, whole_filled, fit_each, fit_length, sane, room, none_held, none_room, held_all, occurs_same, or_true}
 use Rattle.md_match.proofs.Apart.{assigned_same, pairs_apart}
 use Rattle.md_match.proofs.Accepted.{others_all, occurs_marked, traps_all}
 use Rattle.md_match.proofs.Choices.{match_none}
-use Rattle.md_match.proofs.Done.{Grown, ways_grow, ways_length, keeps_mark, no_mark}
+use Rattle.md_match.proofs.Done.{ways_grow, ways_length, no_mark}
 
 -- the ways that are reached, below a whole binding's slots
 pub record ReachedAll (t : Search) (es : List Move) (used : Marks) (s : Slots) (left : Marks) (whole : Slots) : Type 0 where

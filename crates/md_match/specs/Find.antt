@@ -1,5 +1,5 @@
 -- The first way in which a row's tree, its holes filled, is alike a tree.
-use Rattle.std.specs.Prelude.{ℕ, ◌+◌, true, cond, ◌==◌, Option, Some, None}
+use Rattle.std.specs.Prelude.{ℕ, ◌+◌, cond, ◌==◌, Option, Some, None}
 use Rattle.rtl_tree.specs.Trees.{Tree, Number, Symbol, CodeLabel, Read, Load, Unary, Binary, NoPair, AnyNumber, AnyName}
 use Rattle.rtl_tree.specs.Same.{same_cell, same_label, same_width, same_unary, same_binary}
 use Rattle.rtl_tree.specs.Likeness.{commutes}

@@ -1,7 +1,7 @@
 -- The first way in which a row takes the assignments of a transfer, each by one of its own.
 use Rattle.std.specs.Prelude.{ℕ, ◌+◌, Bool, true, false, not, cond, ◌==◌, ◌&&◌, ◌||◌, List, [], ◌∷◌, take, set, slice_get, slice_index_or, Option, Some, None}
 use Rattle.std.specs.Int.{bit_at}
-use Rattle.rtl_tree.specs.Trees.{Tree, Number, Symbol, CodeLabel, Read, Load, Unary, Binary, NoPair, AnyNumber, AnyName}
+use Rattle.rtl_tree.specs.Trees.{Tree, Read, Load, Unary, Binary, AnyNumber, AnyName}
 use Rattle.rtl_tree.specs.Moves.{Goal, ToCell, ToMemory, Move}
 use Rattle.rtl_tree.specs.Same.{same_cell, same_tree}
 use Rattle.rtl_tree.specs.declared.cells.Cell.{Cell}

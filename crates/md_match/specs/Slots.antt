@@ -1,5 +1,5 @@
 -- What stands in the holes of a row, as far as it is known, and what putting a value in a hole leaves.
-use Rattle.std.specs.Prelude.{ℕ, Bool, true, false, cond, ◌==◌, List, [], ◌∷◌, slice_get, set, Option, Some, None}
+use Rattle.std.specs.Prelude.{ℕ, Bool, false, cond, ◌==◌, List, [], ◌∷◌, slice_get, set, Option, Some, None}
 use Rattle.rtl_tree.specs.Trees.{Tree, Number, Symbol, CodeLabel, Read}
 use Rattle.rtl_tree.specs.Same.{same_cell, same_label}
 use Rattle.rtl_tree.specs.declared.cells.Cell.TheVariants.{Hard, Temp}

@@ -1,7 +1,5 @@
-use Rattle.std.proofs.Common.{sym, ◌∙◌}
 use Rattle.rtl_tree.specs.Trees.{tree_of}
 use Rattle.md_match.specs.Searches.{fill}
-use Rattle.md_match.specs.Leaves.{same_leaves}
 use Rattle.md_match.proofs.Leaves.{leaf_last}
 use Rattle.md_match.proofs.acceptance.+is_same_filled.Goals as goal
 

@@ -12,3 +12,4 @@ pub mod Done
 pub mod Undone
 pub mod Exact
 pub mod Apart
+pub mod Barred

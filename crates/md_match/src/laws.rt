@@ -9,7 +9,7 @@ ghost use Rattle.md_match.specs.Slots.{Fit, Slots, fit_of, no_slots};
 ghost use Rattle.md_match.specs.Find.{find};
 ghost use Rattle.std.specs.Prelude.{List};
 ghost use Rattle.rtl_tree.specs.Moves.{Move};
-ghost use Rattle.md_match.specs.Searches.{Marks, Search, accept, is_idle, match_all, no_marks};
+ghost use Rattle.md_match.specs.Searches.{Marks, Search, accept, is_flag_of, is_idle, match_all, no_marks};
 ghost use Rattle.md_match.specs.Ways.{Choice, Choices, Found, FoundAll, Way, Ways};
 
 /// The search for a tree gives what the first way gives with which it goes on, and nothing exactly where no way goes on.
@@ -37,4 +37,10 @@ pub fn search_is_exact()
     ensures none { (w g : ℕ) (holes : List Hole) (t : Search) (es : List Move)
         → t.fit ≡ fit_of w g holes → t.count ≡ length holes → IsRow holes t.row → match_all t es no_marks no_slots ≡ None
         → (b : List Bound) (marks : Marks) → Does w g holes (is_idle t.flags t.barred) t.row es b marks → ⊥ }
+{}
+
+/// Where no register is barred, an assignment is idle exactly where it is to one of the flags.
+#[tactic(auto, using(crate::proofs::Barred::idle_to_flags))]
+pub fn idle_is_to_flags()
+    ensures { (flags : ℕ) (r : Move) → is_idle flags 0 r ≡ is_flag_of flags r.to }
 {}

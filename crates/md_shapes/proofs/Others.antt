@@ -12,9 +12,9 @@ use Rattle.md_shapes.specs.declared.drawing.Drawn.TheVariants.{Number, Symbol, L
 use Rattle.md_shapes.specs.Drawings.{drawn_tree}
 
 pub other_leaf : (f : Fit) (r : Expr) (e : Drawn) (s : Slots)
-  → ((n : ℕ) → r ≡ Num n → ⊥) → ((n : ℕ) → r ≡ Sym n → ⊥) → ((l : Lab) → r ≡ Label l → ⊥) → ((c : CellType) → r ≡ Leaf c → ⊥)
-  → ((n : ℕ) → r ≡ NumHole n → ⊥) → ((n : ℕ) → r ≡ NameHole n → ⊥)
-  → None ≡ leaf f (tree_of r) (drawn_tree e) s
+    → ((n : ℕ) → r ≡ Num n → ⊥) → ((n : ℕ) → r ≡ Sym n → ⊥) → ((l : Lab) → r ≡ Label l → ⊥) → ((c : CellType) → r ≡ Leaf c → ⊥)
+    → ((n : ℕ) → r ≡ NumHole n → ⊥) → ((n : ℕ) → r ≡ NameHole n → ⊥)
+    → None ≡ leaf f (tree_of r) (drawn_tree e) s
 unfolding leaf
 other_leaf f (Num n) e s a b c d g h = absurd (a n refl)
 other_leaf f (Sym n) e s a b c d g h = absurd (b n refl)

@@ -37,8 +37,12 @@ drawn_move m = record { to = drawn_goal m.to; value = drawn_tree m.value }
 -- a row against a shape: its other assignments may go to any flag, and name no general register by its number
 abbrev pub search_of : Subject → Search
 search_of t = record {
-    fit = fit_of t.bits t.general t.holes.now; count = length t.holes.now; flags = 255; barred = t.general; row = t.row.now
-  }
+  fit = fit_of t.bits t.general t.holes.now;
+  count = length t.holes.now;
+  flags = 255;
+  barred = t.general;
+  row = t.row.now;
+}
 
 abbrev pub rest : Search → List DrawnMove → Todo → Slots → Option Slots
 rest t es (Done i used) s = match_all t (map drawn_move (drop i es)) used s

@@ -52,7 +52,14 @@ fn value_of(e: &Drawn) -> Option<Bound>
 
 /// A leaf of a row against a tree: a hole takes the tree's value, and another leaf is to be the tree.
 #[tactic(auto, unfolding(md_match::specs::Find::leaf))]
-pub(crate) fn compare(bits: u32, general: u64, holes: &[Hole], row: &Expr, e: &Drawn, slots: Slots) -> Option<Slots>
+pub(crate) fn compare(
+    bits: u32,
+    general: u64,
+    holes: &[Hole],
+    row: &Expr,
+    e: &Drawn,
+    slots: Slots,
+) -> Option<Slots>
     requires size { IsWordSize bits }
     ensures { result ≡ leaf (fit_of bits general holes.now) (tree_of row.now) (drawn_tree e.now) slots }
 {
@@ -62,7 +69,11 @@ pub(crate) fn compare(bits: u32, general: u64, holes: &[Hole], row: &Expr, e: &D
         (Expr::NameHole(h), _) => put(bits, general, holes, *h, value_of(e), slots),
         (Expr::Num(n), Drawn::Number(m)) => if n == m { Some(slots) } else { None },
         (Expr::Sym(n), Drawn::Symbol(m)) => if n == m { Some(slots) } else { None },
-        (Expr::Label(l), Drawn::Label(m)) => if is_same_label(*l, *m) { Some(slots) } else { None },
+        (Expr::Label(l), Drawn::Label(m)) => if is_same_label(*l, *m) {
+            Some(slots)
+        } else {
+            None
+        },
         (Expr::Cell(c), Drawn::Cell(d)) => if is_same(*c, *d) { Some(slots) } else { None },
         _ => None,
     }

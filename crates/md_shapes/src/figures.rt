@@ -28,7 +28,9 @@ pub struct Frame {
 }
 
 const A: Cell = Cell::Temp(0);
+
 const B: Cell = Cell::Temp(1);
+
 const LABEL: Lab = Lab::Block(0);
 
 fn sets(t: &Subject, cell: Cell, value: Drawn) -> bool
@@ -75,9 +77,15 @@ fn calls_by_link(t: &Subject, link: u8) -> bool
     ensures { result ≡ is_some (match_all (search_of t.now) (link_call link (Block 0)) no_marks no_slots) }
 {
     let to = DrawnPlace::Cell(Cell::Hard(link));
-    let save = DrawnMove { to, value: Drawn::Cell(Cell::Pc) };
+    let save = DrawnMove {
+        to,
+        value: Drawn::Cell(Cell::Pc),
+    };
     let to = DrawnPlace::Cell(Cell::Pc);
-    let jump = DrawnMove { to, value: Drawn::Label(LABEL) };
+    let jump = DrawnMove {
+        to,
+        value: Drawn::Label(LABEL),
+    };
     let goal = [save, jump];
     does(t, &goal)
 }
@@ -87,11 +95,17 @@ fn calls_below<'a>(t: &Subject, stack: Cell, below: &'a Drawn<'a>) -> bool
     ensures { result ≡ is_some (match_all (search_of t.now) (stack_call (drawn_tree below.now) stack (Block 0)) no_marks no_slots) }
 {
     let to = DrawnPlace::Mem(Width::Full, below);
-    let push = DrawnMove { to, value: Drawn::Cell(Cell::Pc) };
+    let push = DrawnMove {
+        to,
+        value: Drawn::Cell(Cell::Pc),
+    };
     let to = DrawnPlace::Cell(stack);
     let lower = DrawnMove { to, value: *below };
     let to = DrawnPlace::Cell(Cell::Pc);
-    let jump = DrawnMove { to, value: Drawn::Label(LABEL) };
+    let jump = DrawnMove {
+        to,
+        value: Drawn::Label(LABEL),
+    };
     let goal = [push, lower, jump];
     does(t, &goal)
 }
@@ -121,10 +135,16 @@ fn returns_by_stack(t: &Subject, stack: Cell) -> bool
 {
     let top = Drawn::Cell(stack);
     let to = DrawnPlace::Cell(Cell::Pc);
-    let back = DrawnMove { to, value: Drawn::Mem(Width::Full, &top) };
+    let back = DrawnMove {
+        to,
+        value: Drawn::Mem(Width::Full, &top),
+    };
     let step = Drawn::Number(t.bits / 8);
     let to = DrawnPlace::Cell(stack);
-    let raise = DrawnMove { to, value: Drawn::Bin(BinOp::Add, &top, &step) };
+    let raise = DrawnMove {
+        to,
+        value: Drawn::Bin(BinOp::Add, &top, &step),
+    };
     let goal = [back, raise];
     does(t, &goal)
 }

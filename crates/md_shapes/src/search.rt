@@ -9,7 +9,8 @@ ghost use Rattle.md_shapes.specs.Drawings.{drawn_move, drawn_tree, rest, IsSubje
 
 use crate::drawing::{Drawn, DrawnMove, DrawnPlace, compare};
 use md_match::{
-    Demands, Marks, NO_MARKS, NO_SLOTS, Slots, is_accepted, is_same_binary, is_same_unary, is_same_width,
+    Demands, Marks, NO_MARKS, NO_SLOTS, Slots, is_accepted, is_same_binary, is_same_unary,
+    is_same_width,
 };
 use md_rows::Hole;
 use rtl_tree::{Assign, Expr, Place, is_commutative};
@@ -34,7 +35,10 @@ fn accept(t: &Subject, used: Marks, slots: Slots) -> Option<Slots>
     requires { IsSubject t.now }
     ensures { result ≡ accept_by (search_of t.now) used slots }
 {
-    let demands = Demands { flags: 0xff, barred: t.general };
+    let demands = Demands {
+        flags: 0xff,
+        barred: t.general,
+    };
     if is_accepted(demands, t.holes.len(), t.row, &used, &slots) {
         Some(slots)
     } else {
@@ -43,16 +47,31 @@ fn accept(t: &Subject, used: Marks, slots: Slots) -> Option<Slots>
 }
 
 #[cycle(search)]
-fn go(t: &Subject, goal: &[DrawnMove], row: &Expr, e: &Drawn, then: &Todo, slots: Slots) -> Option<Slots>
+fn go(
+    t: &Subject,
+    goal: &[DrawnMove],
+    row: &Expr,
+    e: &Drawn,
+    then: &Todo,
+    slots: Slots,
+) -> Option<Slots>
     requires { IsSubject t.now }
     ensures { result ≡ find (search_of t.now).fit (tree_of row.now) (drawn_tree e.now) (rest (search_of t.now) goal.now then.now) slots }
 {
     match (row, e) {
         (Expr::Mem(w, a), Drawn::Mem(v, c)) => {
-            if is_same_width(*w, *v) { go(t, goal, a, c, then, slots) } else { None }
+            if is_same_width(*w, *v) {
+                go(t, goal, a, c, then, slots)
+            } else {
+                None
+            }
         }
         (Expr::Un(o, a), Drawn::Un(p, c)) => {
-            if is_same_unary(*o, *p) { go(t, goal, a, c, then, slots) } else { None }
+            if is_same_unary(*o, *p) {
+                go(t, goal, a, c, then, slots)
+            } else {
+                None
+            }
         }
         (Expr::Bin(o, a, b), Drawn::Bin(p, c, d)) => {
             if !is_same_binary(*o, *p) {
@@ -114,17 +133,35 @@ fn assign(t: &Subject, goal: &[DrawnMove], i: usize, used: Marks, slots: Slots) 
 }
 
 #[cycle(search)]
-fn pair(t: &Subject, goal: &[DrawnMove], r: &Assign, e: &DrawnMove, then: &Todo, slots: Slots) -> Option<Slots>
+fn pair(
+    t: &Subject,
+    goal: &[DrawnMove],
+    r: &Assign,
+    e: &DrawnMove,
+    then: &Todo,
+    slots: Slots,
+) -> Option<Slots>
     requires { IsSubject t.now }
     ensures { result ≡ one (search_of t.now).fit r.now (drawn_move e.now) (rest (search_of t.now) goal.now then.now) slots }
 {
     let then = Todo::Pair(&r.value, &e.value, &*then);
     match (&r.to, &e.to) {
         (Place::Mem(w, a), DrawnPlace::Mem(v, c)) => {
-            if is_same_width(*w, *v) { go(t, goal, a, c, &then, slots) } else { None }
+            if is_same_width(*w, *v) {
+                go(t, goal, a, c, &then, slots)
+            } else {
+                None
+            }
         }
         (Place::Cell(c), DrawnPlace::Cell(d)) => {
-            match compare(t.bits, t.general, t.holes, &Expr::Cell(*c), &Drawn::Cell(*d), slots) {
+            match compare(
+                t.bits,
+                t.general,
+                t.holes,
+                &Expr::Cell(*c),
+                &Drawn::Cell(*d),
+                slots,
+            ) {
                 Some(slots) => next(t, goal, &then, slots),
                 None => None,
             }

@@ -22,34 +22,34 @@ pub pair-returns-in_default : goal.pair-returns-in_default
 pair-returns-in_default t c =
     let x : goal_of c.r.inside.to ≡ c.args.r.now.to = ap (λ (m : Move). m.to) c.r.view_is in
     mixed_too (search_of c.args.t.now).fit c.args.r.now (drawn_move c.args.e.now) (rest (search_of c.args.t.now) c.args.goal.now c.args.then.now) c.args.slots
-      c.in_default.field-0-1 c.in_default.field-0-0 (tree_of c.in_default.field-1-0) (sym x ∙ ap goal_of c.in_default.is-0) (ap drawn_goal c.in_default.is-1)
+    c.in_default.field-0-1 c.in_default.field-0-0 (tree_of c.in_default.field-1-0) (sym x ∙ ap goal_of c.in_default.is-0) (ap drawn_goal c.in_default.is-1)
 
 pub pair-returns-in_default-2 : goal.pair-returns-in_default-2
 pair-returns-in_default-2 t c =
     let x : goal_of c.r.inside.to ≡ c.args.r.now.to = ap (λ (m : Move). m.to) c.r.view_is in
     mixed (search_of c.args.t.now).fit c.args.r.now (drawn_move c.args.e.now) (rest (search_of c.args.t.now) c.args.goal.now c.args.then.now) c.args.slots
-      c.in_default.field-0-0 c.in_default.field-0-1 (drawn_tree c.in_default.field-1-1.now) (sym x ∙ ap goal_of c.in_default.is-0) (ap drawn_goal c.in_default.is-1)
+    c.in_default.field-0-0 c.in_default.field-0-1 (drawn_tree c.in_default.field-1-1.now) (sym x ∙ ap goal_of c.in_default.is-0) (ap drawn_goal c.in_default.is-1)
 
 pub assign-loop-j-preserved-then-used-j : goal.assign-loop-j-preserved-then-used-j
 assign-loop-j-preserved-then-used-j t c =
     pick_skip (search_of c.args.t.now).fit c.args.t.now.row.now c.loop-j.j
-      (drawn_move (get_or c.args.goal.now c.args.i blank)) (drawn_move blank) c.args.used
-      (match_all (search_of c.args.t.now) (map drawn_move (drop (c.args.i + 1) c.args.goal.now))) c.args.slots
-      c.loop-j-test.true c.if-used-j.true
+    (drawn_move (get_or c.args.goal.now c.args.i blank)) (drawn_move blank) c.args.used
+    (match_all (search_of c.args.t.now) (map drawn_move (drop (c.args.i + 1) c.args.goal.now))) c.args.slots
+    c.loop-j-test.true c.if-used-j.true
     ∙ c.loop-j.invariant
 
 pub assign-loop-j-preserved : goal.assign-loop-j-preserved
 assign-loop-j-preserved t c =
     pick_pass (search_of c.args.t.now).fit c.args.t.now.row.now c.loop-j.j
-      (drawn_move (get_or c.args.goal.now c.args.i blank)) c.index-t-j.result c.args.used
-      (match_all (search_of c.args.t.now) (map drawn_move (drop (c.args.i + 1) c.args.goal.now))) c.args.slots
-      c.pair-found.result c.loop-j-test.true c.if-used-j.false c.pair-found.ensures (sym c.is_some.ensures ∙ c.if-is_some.false)
+    (drawn_move (get_or c.args.goal.now c.args.i blank)) c.index-t-j.result c.args.used
+    (match_all (search_of c.args.t.now) (map drawn_move (drop (c.args.i + 1) c.args.goal.now))) c.args.slots
+    c.pair-found.result c.loop-j-test.true c.if-used-j.false c.pair-found.ensures (sym c.is_some.ensures ∙ c.if-is_some.false)
     ∙ c.loop-j.invariant
 
 pub assign-returns-then-is_some : goal.assign-returns-then-is_some
 assign-returns-then-is_some t c =
     pick_take (search_of c.args.t.now).fit c.args.t.now.row.now c.loop-j.j
-      (drawn_move (get_or c.args.goal.now c.args.i blank)) c.index-t-j.result c.args.used
-      (match_all (search_of c.args.t.now) (map drawn_move (drop (c.args.i + 1) c.args.goal.now))) c.args.slots
-      c.pair-found.result c.loop-j-test.true c.if-used-j.false c.pair-found.ensures (sym c.is_some.ensures ∙ c.if-is_some.true)
+    (drawn_move (get_or c.args.goal.now c.args.i blank)) c.index-t-j.result c.args.used
+    (match_all (search_of c.args.t.now) (map drawn_move (drop (c.args.i + 1) c.args.goal.now))) c.args.slots
+    c.pair-found.result c.loop-j-test.true c.if-used-j.false c.pair-found.ensures (sym c.is_some.ensures ∙ c.if-is_some.true)
     ∙ c.loop-j.invariant

@@ -20,4 +20,4 @@ decreases-pair l = 1 + size (goal_tree (drawn_goal l.e.now.to)) + size (drawn_tr
 abbrev pub invariant-assign-loop-j : goal.invariant-assign-loop-j
 invariant-assign-loop-j l =
     pick (search_of l.t).fit (drop l.j l.t.row.now) l.j (drawn_move l.e) l.used (match_all (search_of l.t) (map drawn_move (drop (l.i + 1) l.goal))) l.slots
-      ≡ match_all (search_of l.t) (map drawn_move (drop l.i l.goal)) l.used l.slots
+    ≡ match_all (search_of l.t) (map drawn_move (drop l.i l.goal)) l.used l.slots

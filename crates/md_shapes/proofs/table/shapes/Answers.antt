@@ -9,14 +9,15 @@ use Rattle.md_shapes.proofs.table.shapes.Goals as goal
 pub loop-place-preserved : goal.loop-place-preserved
 loop-place-preserved c =
     let long = c.loop-place.invariant.0 in
-    let below = c.loop-place-test.true in
-    (length-set c.loop-place.list c.loop-place.place c.shape_at.result ∙ long,
-     subst (λ (x : Shape). (k : ℕ) → k < c.loop-place.place + 1 → get_or (set c.loop-place.list c.loop-place.place x) k (shape_by 0) ≡ shape_by k)
-      (sym c.shape_at.ensures)
-      (fill_by_more shape_by c.loop-place.list c.loop-place.place (shape_by 0) (omega (arith, long, below)) c.loop-place.invariant.1))
+    let below = c.loop-place-test.true in (
+      length-set c.loop-place.list c.loop-place.place c.shape_at.result ∙ long,
+      subst (λ (x : Shape). (k : ℕ) → k < c.loop-place.place + 1 → get_or (set c.loop-place.list c.loop-place.place x) k (shape_by 0) ≡ shape_by k)
+          (sym c.shape_at.ensures)
+          (fill_by_more shape_by c.loop-place.list c.loop-place.place (shape_by 0) (omega (arith, long, below)) c.loop-place.invariant.1),
+    )
 
 pub returns : goal.returns
 returns c =
     let past = c.loop-place-test.false in
     fill_by_all shape_by c.loop-place.list 137 (shape_by 0) c.loop-place.invariant.0
-      (λ k l. c.loop-place.invariant.1 k (omega (arith, l, past)))
+    (λ k l. c.loop-place.invariant.1 k (omega (arith, l, past)))

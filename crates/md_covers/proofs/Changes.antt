@@ -78,7 +78,7 @@ leaf_changed d (Sym n) = refl
 leaf_changed d (Label l) = refl
 
 get_changed : (d : Change) (b : List Bound) (h : ℕ) (hole : Tree) → changed d hole ≡ hole
-  → held_by hole (slice_get (map (changed_bound d) b) h) ≡ changed d (held_by hole (slice_get b h))
+    → held_by hole (slice_get (map (changed_bound d) b) h) ≡ changed d (held_by hole (slice_get b h))
 get_changed d [] h hole e = sym e
 get_changed d (v ∷ vs) zero hole e = leaf_changed d v
 get_changed d (v ∷ vs) (suc h) hole e = get_changed d vs h hole e
@@ -103,7 +103,7 @@ filled_changed d b (Read Output) x = ap Read (sym x)
 filled_changed d b (Read Halt) x = ap Read (sym x)
 
 same_changed : (d : Change) (b : List Bound) (x t : Tree) → IsFixed d x → IsFixed d t → same_tree (filled b x) (filled b t) ≡ true
-  → same_tree (filled (map (changed_bound d) b) x) (filled (map (changed_bound d) b) t) ≡ true
+    → same_tree (filled (map (changed_bound d) b) x) (filled (map (changed_bound d) b) t) ≡ true
 same_changed d b x t f g e =
     let i : filled b x ≡ filled b t = same_tree-is (filled b x) (filled b t) e in
     let p = filled_changed d b x f in
@@ -120,29 +120,29 @@ or_right true b e = refl
 or_right false b e = e
 
 pub occurs_changed : (d : Change) (b : List Bound) (x : Tree) → IsFixed d x → (t : Tree) → IsFixed d t
-  → occurs_by (filled b) x t ≡ true → occurs_by (filled (map (changed_bound d) b)) x t ≡ true
+    → occurs_by (filled b) x t ≡ true → occurs_by (filled (map (changed_bound d) b)) x t ≡ true
 occurs_changed d b x f (Load w a) g e =
     let c = map (changed_bound d) b in
     elim (or_true (same_tree (filled b x) (filled b (Load w a))) (occurs_by (filled b) x a) e) [
-      inl p ↦ or_left (same_tree (filled c x) (filled c (Load w a))) (occurs_by (filled c) x a) (same_changed d b x (Load w a) f g p)
-    | inr p ↦ or_right (same_tree (filled c x) (filled c (Load w a))) (occurs_by (filled c) x a) (occurs_changed d b x f a g p)
+      | inl p ↦ or_left (same_tree (filled c x) (filled c (Load w a))) (occurs_by (filled c) x a) (same_changed d b x (Load w a) f g p)
+      | inr p ↦ or_right (same_tree (filled c x) (filled c (Load w a))) (occurs_by (filled c) x a) (occurs_changed d b x f a g p)
     ]
 occurs_changed d b x f (Unary o a) g e =
     let c = map (changed_bound d) b in
     elim (or_true (same_tree (filled b x) (filled b (Unary o a))) (occurs_by (filled b) x a) e) [
-      inl p ↦ or_left (same_tree (filled c x) (filled c (Unary o a))) (occurs_by (filled c) x a) (same_changed d b x (Unary o a) f g p)
-    | inr p ↦ or_right (same_tree (filled c x) (filled c (Unary o a))) (occurs_by (filled c) x a) (occurs_changed d b x f a g p)
+      | inl p ↦ or_left (same_tree (filled c x) (filled c (Unary o a))) (occurs_by (filled c) x a) (same_changed d b x (Unary o a) f g p)
+      | inr p ↦ or_right (same_tree (filled c x) (filled c (Unary o a))) (occurs_by (filled c) x a) (occurs_changed d b x f a g p)
     ]
 occurs_changed d b x f (Binary o a k) g e =
     let c = map (changed_bound d) b in
     elim (or_true (same_tree (filled b x) (filled b (Binary o a k))) (occurs_by (filled b) x a || occurs_by (filled b) x k) e) [
-      inl p ↦ or_left (same_tree (filled c x) (filled c (Binary o a k))) (occurs_by (filled c) x a || occurs_by (filled c) x k)
+      | inl p ↦ or_left (same_tree (filled c x) (filled c (Binary o a k))) (occurs_by (filled c) x a || occurs_by (filled c) x k)
           (same_changed d b x (Binary o a k) f g p)
-    | inr p ↦ or_right (same_tree (filled c x) (filled c (Binary o a k))) (occurs_by (filled c) x a || occurs_by (filled c) x k)
-        (elim (or_true (occurs_by (filled b) x a) (occurs_by (filled b) x k) p) [
-          inl q ↦ or_left (occurs_by (filled c) x a) (occurs_by (filled c) x k) (occurs_changed d b x f a g.0 q)
-        | inr q ↦ or_right (occurs_by (filled c) x a) (occurs_by (filled c) x k) (occurs_changed d b x f k g.1 q)
-        ])
+      | inr p ↦ or_right (same_tree (filled c x) (filled c (Binary o a k))) (occurs_by (filled c) x a || occurs_by (filled c) x k)
+          (elim (or_true (occurs_by (filled b) x a) (occurs_by (filled b) x k) p) [
+            | inl q ↦ or_left (occurs_by (filled c) x a) (occurs_by (filled c) x k) (occurs_changed d b x f a g.0 q)
+            | inr q ↦ or_right (occurs_by (filled c) x a) (occurs_by (filled c) x k) (occurs_changed d b x f k g.1 q)
+          ])
     ]
 occurs_changed d b x f (Number n) g e = same_changed d b x (Number n) f g e
 occurs_changed d b x f (Symbol n) g e = same_changed d b x (Symbol n) f g e
@@ -167,25 +167,25 @@ goal_changed d (ToCell c) = refl
 goal_changed d (ToMemory w a) = refl
 
 alike_move_changed : (d : Change) (b : List Bound) (r e : Move) → IsFixedMove d r → IsAlikeMove b r e
-  → IsAlikeMove (map (changed_bound d) b) r (changed_move d e)
+    → IsAlikeMove (map (changed_bound d) b) r (changed_move d e)
 alike_move_changed d b r e f a = record {
-    place = (let p = filled_changed d b (goal_tree r.to) f.place in
+  place = (let p = filled_changed d b (goal_tree r.to) f.place in
       let q = alike_changed d (filled b (goal_tree r.to)) (goal_tree e.to) a.place in
       let s = subst (λ x. IsAlike x (changed d (goal_tree e.to))) (sym p) q in
       subst (λ x. IsAlike (filled (map (changed_bound d) b) (goal_tree r.to)) x) (sym (goal_changed d e.to)) s);
-    value = subst (λ x. IsAlike x (changed d e.value)) (sym (filled_changed d b r.value f.value)) (alike_changed d (filled b r.value) e.value a.value)
-  }
+  value = subst (λ x. IsAlike x (changed d e.value)) (sym (filled_changed d b r.value f.value)) (alike_changed d (filled b r.value) e.value a.value);
+}
 
 -- an assignment that is taken by one of a kind is left alone
 pub record FixesTaken (d : Change) (row : List Move) (b : List Bound) (Q : Move → Type 0) : Type 0 where
   pub each : (j : ℕ) (r e : Move) → slice_get row j ≡ Some r → Q e → IsAlikeMove b r e → IsFixedMove d r
 
 pub takes_changed : (d : Change) (row : List Move) (b : List Bound) (Q : Move → Type 0) → FixesTaken d row b Q → (used left : Marks) (es : List Move)
-  → Each Q es → Takes row b used es left → Takes row (map (changed_bound d) b) used (map (changed_move d) es) left
+    → Each Q es → Takes row b used es left → Takes row (map (changed_bound d) b) used (map (changed_move d) es) left
 takes_changed d row b Q f _ _ _ q (all_taken used) = all_taken used
 takes_changed d row b Q f _ _ _ q (taken e es j r used left is free a rest) =
     taken (changed_move d e) (map (changed_move d) es) j r used left is free (alike_move_changed d b r e (f.each j r e is q.0 a) a)
-      (takes_changed d row b Q f (set used j true) left es q.1 rest)
+    (takes_changed d row b Q f (set used j true) left es q.1 rest)
 
 pub other_mark : (used : Marks) (j k : ℕ) → (k ≡ j → ⊥) → is_marked used k ≡ false → is_marked (set used j true) k ≡ false
 other_mark [] j k n e = e
@@ -207,14 +207,14 @@ pub record TakenBy (b : List Bound) (Q : Move → Type 0) (r : Move) : Type 0 wh
   pub alike : IsAlikeMove b r by
 
 pub taken_by : (row : List Move) (b : List Bound) (Q : Move → Type 0) (used left : Marks) (es : List Move) → Each Q es → Takes row b used es left
-  → (k : ℕ) (m : Move) → slice_get row k ≡ Some m → is_marked used k ≡ false → is_marked left k ≡ true → TakenBy b Q m
+    → (k : ℕ) (m : Move) → slice_get row k ≡ Some m → is_marked used k ≡ false → is_marked left k ≡ true → TakenBy b Q m
 taken_by row b Q _ _ _ q (all_taken used) k m is n y = let x : true ≡ false = sym y ∙ n in cc
 taken_by row b Q _ _ _ q (taken e es j r used left at free a rest) k m is n y = elim (same_or_not k j) [
-    inl i ↦
+  | inl i ↦
       (let same : r ≡ m = (let c : slice_get row j ≡ Some m = subst (λ o. slice_get row o ≡ Some m) i is in cc) in
       subst (TakenBy b Q) same (record { by = e; kind = q.0; alike = a }))
   | inr d ↦ taken_by row b Q (set used j true) left es q.1 rest k m is (other_mark used j k d n) y
-  ]
+]
 
 pub no_mark : (j : ℕ) → is_marked no_marks j ≡ false
 no_mark j = unmarked 6 j
@@ -222,6 +222,7 @@ no_mark j = unmarked 6 j
     blank : ℕ → Marks
     blank zero = []
     blank (suc n) = false ∷ blank n
+
     unmarked : (n j : ℕ) → is_marked (blank n) j ≡ false
     unmarked zero j = refl
     unmarked (suc n) zero = refl
@@ -236,24 +237,25 @@ traps_two P Q R f (Binary o a b) p q =
 traps_two P Q R f _ p q = tt
 
 part_changed : (d : Change) (row : List Move) (marks : Marks) (b : List Bound)
-  → ((j : ℕ) (r : Move) → slice_get row j ≡ Some r → is_marked marks j ≡ true → IsFixedMove d r)
-  → (x : Tree) → IsPartOfMarked row marks b x → IsFixed d x → IsPartOfMarked row marks (map (changed_bound d) b) x
+    → ((j : ℕ) (r : Move) → slice_get row j ≡ Some r → is_marked marks j ≡ true → IsFixedMove d r)
+    → (x : Tree) → IsPartOfMarked row marks b x → IsFixed d x → IsPartOfMarked row marks (map (changed_bound d) b) x
 part_changed d row marks b f x p g =
     let c = map (changed_bound d) b in
     let m = p.move in
     let fixed = f p.marked.place m p.marked.is p.marked.marked in
     record {
-      move = m; marked = p.marked;
+      move = m;
+      marked = p.marked;
       part = elim (or_true (occurs_by (filled b) x (goal_tree m.to)) (occurs_by (filled b) x m.value) p.part) [
-          inl q ↦ or_left (occurs_by (filled c) x (goal_tree m.to)) (occurs_by (filled c) x m.value)
-              (occurs_changed d b x g (goal_tree m.to) fixed.place q)
+        | inl q ↦ or_left (occurs_by (filled c) x (goal_tree m.to)) (occurs_by (filled c) x m.value)
+            (occurs_changed d b x g (goal_tree m.to) fixed.place q)
         | inr q ↦ or_right (occurs_by (filled c) x (goal_tree m.to)) (occurs_by (filled c) x m.value)
-              (occurs_changed d b x g m.value fixed.value q)
-        ]
+            (occurs_changed d b x g m.value fixed.value q)
+      ];
     }
 
 get_bound : (d : Change) (b : List Bound) (h : ℕ) (v : Bound) → slice_get (map (changed_bound d) b) h ≡ Some v
-  → (u : Bound) × (slice_get b h ≡ Some u) × (changed_bound d u ≡ v)
+    → (u : Bound) × (slice_get b h ≡ Some u) × (changed_bound d u ≡ v)
 get_bound d [] h v e = let k : None ≡ Some v = e in cc
 get_bound d (u ∷ us) zero v e = (u, refl, cc)
 get_bound d (u ∷ us) (suc h) v e = get_bound d us h v e
@@ -272,19 +274,19 @@ pub record Carries (w g : ℕ) (holes : List Hole) (d : Change) (row es : List M
 
 -- what a row does it does after a change
 pub does_changed : (w g : ℕ) (holes : List Hole) (idle : Move → Bool) (d : Change) (row es : List Move) (b : List Bound) (marks : Marks) (Q : Move → Type 0)
-  → Carries w g holes d row es b marks Q → Does w g holes idle row es b marks
-  → Does w g holes idle row (map (changed_move d) es) (map (changed_bound d) b) marks
+    → Carries w g holes d row es b marks Q → Does w g holes idle row es b marks
+    → Does w g holes idle row (map (changed_move d) es) (map (changed_bound d) b) marks
 does_changed w g holes idle d row es b marks Q c h = record {
-    fit = fit_all w g holes (map (changed_bound d) b) (map_length d b ∙ fit_length w g holes b h.fit) (λ k v e.
+  fit = fit_all w g holes (map (changed_bound d) b) (map_length d b ∙ fit_length w g holes b h.fit) (λ k v e.
       (let x = get_bound d b k v e in
       subst (λ z. fit_of w g holes k z ≡ true) x.2 (c.fits k x.0 (fit_each w g holes b h.fit k x.0 x.1))));
-    takes = takes_changed d row b Q c.takes no_marks marks es c.kinds h.takes;
-    others = h.others;
-    traps = λ r m. traps_two (IsPartOfMarked row marks b) (IsFixed d) (IsPartOfMarked row marks (map (changed_bound d) b))
+  takes = takes_changed d row b Q c.takes no_marks marks es c.kinds h.takes;
+  others = h.others;
+  traps = λ r m. traps_two (IsPartOfMarked row marks b) (IsFixed d) (IsPartOfMarked row marks (map (changed_bound d) b))
       (λ x p f. part_changed d row marks b
-        (λ j n is y. (let t = taken_by row b Q no_marks marks es c.kinds h.takes j n is (no_mark j) y in c.takes.each j n t.by is t.kind t.alike))
-        x p f)
+      (λ j n is y. (let t = taken_by row b Q no_marks marks es c.kinds h.takes j n is (no_mark j) y in c.takes.each j n t.by is t.kind t.alike))
+      x p f)
       r.value (h.traps r m) (c.traps r m);
-    bound = h.bound;
-    different = c.different
-  }
+  bound = h.bound;
+  different = c.different;
+}

@@ -63,7 +63,7 @@ alike_total _ _ (crossed o a b c d e h k) = let p = alike_total a d h in let q =
 -- what stands in a hole of a kind
 
 pub bound_at : (w g : ℕ) (holes : List Hole) (b : List Bound) → AllFit w g holes b → (h : ℕ) (o : Option Hole) → slice_get holes h ≡ o
-  → (o ≡ None → ⊥) → (v : Bound) × (slice_get b h ≡ Some v) × (fit_at w g o v ≡ true)
+    → (o ≡ None → ⊥) → (v : Bound) × (slice_get b h ≡ Some v) × (fit_at w g o v ≡ true)
 bound_at w g [] [] a h None e n = absurd (n refl)
 bound_at w g [] [] a h (Some x) e n = let k : None ≡ Some x = e in cc
 bound_at w g (x ∷ xs) (v ∷ vs) a zero o e n = (v, refl, subst (λ z. fit_at w g z v ≡ true) e a.0)
@@ -113,19 +113,19 @@ held_is : (hole : Tree) (b : List Bound) (h : ℕ) (v : Bound) → slice_get b h
 held_is hole b h v e = ap (held_by hole) e
 
 register_filled : (w g : ℕ) (holes : List Hole) (b : List Bound) → AllFit w g holes b → (h : ℕ) (hole : Tree) → is_register_hole (slice_get holes h) ≡ true
-  → literals (held_by hole (slice_get b h)) ≡ 0
+    → literals (held_by hole (slice_get b h)) ≡ 0
 register_filled w g holes b a h hole k =
     let x = bound_at w g holes b a h (slice_get holes h) refl (some_of is_register_hole refl (slice_get holes h) k) in
     ap literals (held_is hole b h x.0 x.1) ∙ register_literals w g (slice_get holes h) x.0 k x.2
 
 name_filled : (w g : ℕ) (holes : List Hole) (b : List Bound) → AllFit w g holes b → (h : ℕ) (hole : Tree) → is_name_hole (slice_get holes h) ≡ true
-  → literals (held_by hole (slice_get b h)) ≡ 0
+    → literals (held_by hole (slice_get b h)) ≡ 0
 name_filled w g holes b a h hole k =
     let x = bound_at w g holes b a h (slice_get holes h) refl (some_of is_name_hole refl (slice_get holes h) k) in
     ap literals (held_is hole b h x.0 x.1) ∙ name_literals w g (slice_get holes h) x.0 k x.2
 
 pub number_at : (w g : ℕ) (holes : List Hole) (b : List Bound) → AllFit w g holes b → (h : ℕ) → is_number_hole (slice_get holes h) ≡ true
-  → (n : ℕ) × (slice_get b h ≡ Some (Num n)) × (fit_of w g holes h (Num n) ≡ true)
+    → (n : ℕ) × (slice_get b h ≡ Some (Num n)) × (fit_of w g holes h (Num n) ≡ true)
 number_at w g holes b a h k =
     let x = bound_at w g holes b a h (slice_get holes h) refl (some_of is_number_hole refl (slice_get holes h) k) in
     let y = number_bound w g (slice_get holes h) x.0 k x.2 in
@@ -133,7 +133,7 @@ number_at w g holes b a h k =
 
 -- a filled tree has as many numbers as the row's tree has numbers and holes for numbers
 pub filled_literals : (w g : ℕ) (holes : List Hole) (b : List Bound) → AllFit w g holes b → (t : Tree) → IsRowTree holes t
-  → literals (filled b t) ≡ numbers t
+    → literals (filled b t) ≡ numbers t
 filled_literals w g holes b a (Read (RegisterHole h)) k = register_filled w g holes b a h (Read (RegisterHole h)) k
 filled_literals w g holes b a (AnyName h) k = name_filled w g holes b a h (AnyName h) k
 filled_literals w g holes b a (AnyNumber h) k =
@@ -175,7 +175,7 @@ no_literal_total t e n z = no_total t e ∙ sym z
 
 -- without holes for numbers the sum is fixed
 pub fixed_total : (w g : ℕ) (holes : List Hole) (b : List Bound) → AllFit w g holes b → (t : Tree) → IsRowTree holes t → gaps t ≡ 0
-  → total (filled b t) ≡ total t
+    → total (filled b t) ≡ total t
 fixed_total w g holes b a (Read (RegisterHole h)) k e =
     no_total (held_by (Read (RegisterHole h)) (slice_get b h)) (register_filled w g holes b a h (Read (RegisterHole h)) k)
 fixed_total w g holes b a (AnyName h) k e =
@@ -214,7 +214,7 @@ none_open (AnyNumber n) e = refl
 none_open (AnyName n) e = refl
 
 no_gap : (w g : ℕ) (holes : List Hole) (h : ℕ) (t : Tree) → IsRowTree holes t → is_number_hole (slice_get holes h) ≡ true → has_hole h t ≡ true
-  → 0 < gaps t
+    → 0 < gaps t
 no_gap w g holes h (Read (RegisterHole k)) r n e = absurd (both (slice_get holes h) n (subst (λ z. is_register_hole (slice_get holes z) ≡ true) (sym (eqb-true h k e)) r))
   where
     both : (o : Option Hole) → is_number_hole o ≡ true → is_register_hole o ≡ true → ⊥
@@ -235,22 +235,22 @@ no_gap w g holes h (AnyNumber k) r n e = omega arith
 no_gap w g holes h (Load v x) r n e = no_gap w g holes h x r n e
 no_gap w g holes h (Unary v x) r n e = no_gap w g holes h x r n e
 no_gap w g holes h (Binary v x y) r n e = elim (or_true (has_hole h x) (has_hole h y) e) [
-    inl p ↦ (let z = no_gap w g holes h x r.0 n p in omega (arith, z))
+  | inl p ↦ (let z = no_gap w g holes h x r.0 n p in omega (arith, z))
   | inr p ↦ (let z = no_gap w g holes h y r.1 n p in omega (arith, z))
-  ]
+]
 no_gap w g holes h _ r n e = let k : false ≡ true = e in cc
 
 -- the one number of a tree whose hole it fills
 pub hole_total : (w g : ℕ) (holes : List Hole) (b : List Bound) → AllFit w g holes b → (h : ℕ) (n : ℕ) → slice_get b h ≡ Some (Num n)
-  → is_number_hole (slice_get holes h) ≡ true → (t : Tree) → IsRowTree holes t → has_hole h t ≡ true → numbers t ≡ 1
-  → total (filled b t) ≡ n
+    → is_number_hole (slice_get holes h) ≡ true → (t : Tree) → IsRowTree holes t → has_hole h t ≡ true → numbers t ≡ 1
+    → total (filled b t) ≡ n
 hole_total w g holes b a h n e z (AnyNumber k) r p q =
     let i : h ≡ k = eqb-true h k p in
     ap total (held_is (AnyNumber k) b k (Num n) (subst (λ m. slice_get b m ≡ Some (Num n)) i e))
 hole_total w g holes b a h n e z (Load v x) r p q = hole_total w g holes b a h n e z x r p q
 hole_total w g holes b a h n e z (Unary v x) r p q = hole_total w g holes b a h n e z x r p q
 hole_total w g holes b a h n e z (Binary v x y) r p q = elim (or_true (has_hole h x) (has_hole h y) p) [
-    inl c ↦
+  | inl c ↦
       (let some = no_gap w g holes h x r.0 z c in
       let one : numbers x ≡ 1 = omega (arith, some, q) in
       let none : numbers y ≡ 0 = omega (arith, some, q) in
@@ -264,7 +264,7 @@ hole_total w g holes b a h n e z (Binary v x y) r p q = elim (or_true (has_hole 
       let i = hole_total w g holes b a h n e z y r.1 c one in
       let j = no_total (filled b x) (filled_literals w g holes b a x r.0 ∙ none) in
       omega (arith, i, j))
-  ]
+]
 hole_total w g holes b a h n e z (Read (RegisterHole k)) r p q =
     let s = no_gap w g holes h (Read (RegisterHole k)) r z p in absurd (omega (arith, s))
 hole_total w g holes b a h n e z (AnyName k) r p q =
@@ -281,36 +281,40 @@ less_own x t e = let p : literals x ≡ literals t = ap literals e in record { f
 
 pub less_left : (x a c : Tree) (o : ℕ) → IsLess x a → (literals x ≤ literals a + literals c) × (literals x ≡ literals a + literals c → total x ≡ total a + total c)
 less_left x a c o k =
-    let f = k.fewer in
-    (omega (arith, f), λ q.
-      (let none : literals c ≡ 0 = omega (arith, f, q) in
-      let same : literals x ≡ literals a = omega (arith, f, q) in
-      let i = k.sum same in let j = no_total c none in omega (arith, i, j)))
+    let f = k.fewer in (
+      omega (arith, f),
+      λ q.
+          (let none : literals c ≡ 0 = omega (arith, f, q) in
+          let same : literals x ≡ literals a = omega (arith, f, q) in
+          let i = k.sum same in let j = no_total c none in omega (arith, i, j)),
+    )
 
 pub less_right : (x a c : Tree) (o : ℕ) → IsLess x c → (literals x ≤ literals a + literals c) × (literals x ≡ literals a + literals c → total x ≡ total a + total c)
 less_right x a c o k =
-    let f = k.fewer in
-    (omega (arith, f), λ q.
-      (let none : literals a ≡ 0 = omega (arith, f, q) in
-      let same : literals x ≡ literals c = omega (arith, f, q) in
-      let i = k.sum same in let j = no_total a none in omega (arith, i, j)))
+    let f = k.fewer in (
+      omega (arith, f),
+      λ q.
+          (let none : literals a ≡ 0 = omega (arith, f, q) in
+          let same : literals x ≡ literals c = omega (arith, f, q) in
+          let i = k.sum same in let j = no_total a none in omega (arith, i, j)),
+    )
 
 pub part_less : (b : List Bound) (x t : Tree) → occurs_by (filled b) x t ≡ true → IsLess (filled b x) (filled b t)
 part_less b x (Load w a) e = elim (or_true (same_tree (filled b x) (filled b (Load w a))) (occurs_by (filled b) x a) e) [
-    inl p ↦ less_own (filled b x) (filled b (Load w a)) (same_tree-is (filled b x) (filled b (Load w a)) p)
+  | inl p ↦ less_own (filled b x) (filled b (Load w a)) (same_tree-is (filled b x) (filled b (Load w a)) p)
   | inr p ↦ (let k = part_less b x a p in record { fewer = k.fewer; sum = k.sum })
-  ]
+]
 part_less b x (Unary o a) e = elim (or_true (same_tree (filled b x) (filled b (Unary o a))) (occurs_by (filled b) x a) e) [
-    inl p ↦ less_own (filled b x) (filled b (Unary o a)) (same_tree-is (filled b x) (filled b (Unary o a)) p)
+  | inl p ↦ less_own (filled b x) (filled b (Unary o a)) (same_tree-is (filled b x) (filled b (Unary o a)) p)
   | inr p ↦ (let k = part_less b x a p in record { fewer = k.fewer; sum = k.sum })
-  ]
+]
 part_less b x (Binary o a c) e = elim (or_true (same_tree (filled b x) (filled b (Binary o a c))) (occurs_by (filled b) x a || occurs_by (filled b) x c) e) [
-    inl p ↦ less_own (filled b x) (filled b (Binary o a c)) (same_tree-is (filled b x) (filled b (Binary o a c)) p)
+  | inl p ↦ less_own (filled b x) (filled b (Binary o a c)) (same_tree-is (filled b x) (filled b (Binary o a c)) p)
   | inr p ↦ elim (or_true (occurs_by (filled b) x a) (occurs_by (filled b) x c) p) [
-      inl q ↦ (let k = less_left (filled b x) (filled b a) (filled b c) 0 (part_less b x a q) in record { fewer = k.0; sum = k.1 })
+    | inl q ↦ (let k = less_left (filled b x) (filled b a) (filled b c) 0 (part_less b x a q) in record { fewer = k.0; sum = k.1 })
     | inr q ↦ (let k = less_right (filled b x) (filled b a) (filled b c) 0 (part_less b x c q) in record { fewer = k.0; sum = k.1 })
-    ]
   ]
+]
 part_less b x (Number n) e = less_own (filled b x) (filled b (Number n)) (same_tree-is (filled b x) (filled b (Number n)) e)
 part_less b x (Symbol n) e = less_own (filled b x) (filled b (Symbol n)) (same_tree-is (filled b x) (filled b (Symbol n)) e)
 part_less b x (CodeLabel n) e = less_own (filled b x) (filled b (CodeLabel n)) (same_tree-is (filled b x) (filled b (CodeLabel n)) e)

@@ -9,3 +9,4 @@ pub mod Normal
 pub mod RegisterBits
 pub mod Decide
 pub mod OneRegister
+pub mod GeneralSet

@@ -76,7 +76,7 @@ pub at_place : (holes : List Hole) (ms : List Move) → All (IsRowMove holes) ms
 at_place holes ms k j r e = subst (IsRowMove holes) (get_or_from_slice_get ms j r r e) (k j r (slice_get_within ms j r e))
 
 normal_at : (holes : List Hole) (w : ℕ) (ms : List Move) → ((j : ℕ) (r : Move) → slice_get ms j ≡ Some r → IsRowMove holes r)
-  → (j : ℕ) (r : Move) → slice_get (map (norm_move w) ms) j ≡ Some r → IsRowMove holes r
+    → (j : ℕ) (r : Move) → slice_get (map (norm_move w) ms) j ≡ Some r → IsRowMove holes r
 normal_at holes w [] k j r e = let q : None ≡ Some r = e in cc
 normal_at holes w (m ∷ ms) k zero r e =
     let x = k 0 m refl in
@@ -85,7 +85,7 @@ normal_at holes w (m ∷ ms) k zero r e =
 normal_at holes w (m ∷ ms) k (suc j) r e = normal_at holes w ms (λ i s q. k (suc i) s q) j r e
 
 pub normal_row : (holes : List Hole) (w : ℕ) (effects normal : List Move) → All (IsRowMove holes) effects → normal ≡ norm_moves w effects
-  → (j : ℕ) (r : Move) → slice_get normal j ≡ Some r → IsRowMove holes r
+    → (j : ℕ) (r : Move) → slice_get normal j ≡ Some r → IsRowMove holes r
 normal_row holes w effects normal k e j r q =
     normal_at holes w effects (at_place holes effects k) j r (subst (λ z. slice_get z j ≡ Some r) e q)
 
@@ -105,9 +105,10 @@ row_below holes (Read (RegisterHole h)) k = there holes is_register_hole refl h 
 row_below holes _ k = tt
 
 pub is_row : (holes : List Hole) (normal : List Move) → length holes ≤ 8 → length normal ≤ 6
-  → ((j : ℕ) (r : Move) → slice_get normal j ≡ Some r → IsRowMove holes r) → IsRow holes normal
+    → ((j : ℕ) (r : Move) → slice_get normal j ≡ Some r → IsRowMove holes r) → IsRow holes normal
 is_row holes normal few six kinds = record {
-    few_holes = few; few_moves = six;
-    places = λ j r e. row_below holes (goal_tree r.to) (kinds j r e).place;
-    values = λ j r e. row_below holes r.value (kinds j r e).value
-  }
+  few_holes = few;
+  few_moves = six;
+  places = λ j r e. row_below holes (goal_tree r.to) (kinds j r e).place;
+  values = λ j r e. row_below holes r.value (kinds j r e).value;
+}

@@ -30,12 +30,12 @@ abbrev pub to_open : Bool → Open → Change
 to_open ranged p = record { cell = put_cell p.a p.b; number = put_number ranged p.number; symbol = λ _. p.symbol; label = λ _. p.label }
 
 saved_moved : (m : Frame) (p : Open) (n : ℕ) (link : Option ℕ)
-  → saved link (stack_plus m p.number) ≡ map (changed_move (to_open true p)) (saved link (stack_plus m n))
+    → saved link (stack_plus m p.number) ≡ map (changed_move (to_open true p)) (saved link (stack_plus m n))
 saved_moved m p n (Some z) = refl
 saved_moved m p n None = refl
 
 restored_moved : (m : Frame) (p : Open) (n : ℕ) (link : Option ℕ)
-  → restored link (stack_plus m p.number) ≡ map (changed_move (to_open true p)) (restored link (stack_plus m n))
+    → restored link (stack_plus m p.number) ≡ map (changed_move (to_open true p)) (restored link (stack_plus m n))
 restored_moved m p n (Some z) = refl
 restored_moved m p n None = refl
 
@@ -48,7 +48,7 @@ return_moved m p (Some z) = refl
 return_moved m p None = refl
 
 pub moved : (w : ℕ) (m : Frame) (pattern : Pattern) (p : Open) (n : ℕ)
-  → shape_moves m pattern p ≡ map (changed_move (to_open (has_runs (runs_of w pattern)) p)) (shape_moves m pattern (example n))
+    → shape_moves m pattern p ≡ map (changed_move (to_open (has_runs (runs_of w pattern)) p)) (shape_moves m pattern (example n))
 moved w m Copy p n = refl
 moved w m SetNumber p n = refl
 moved w m SetSymbol p n = refl
@@ -118,7 +118,7 @@ restored_one m n (Some z) e =
 restored_one m n None e = let k : false ≡ true = e in cc
 
 pub one_move : (w : ℕ) (m : Frame) (pattern : Pattern) → has_transfer m pattern ≡ true → has_runs (runs_of w pattern) ≡ true
-  → (n : ℕ) → OneMove (shape_moves m pattern (example n)) n
+    → (n : ℕ) → OneMove (shape_moves m pattern (example n)) n
 one_move w m SetNumber t h n =
     record { move = record { to = ToCell (Temp 0); value = Number n }; is = refl; flagless = refl; one = refl; sum = omega arith }
 one_move w m LoadHome t h n =
@@ -142,9 +142,10 @@ runs_16 LoadHome = (record { many = below _ _ refl; moves = below _ _ refl; word
 runs_16 StoreHome = (record { many = below _ _ refl; moves = below _ _ refl; words = below _ _ refl }, tt)
 runs_16 SaveLink = (record { many = below _ _ refl; moves = below _ _ refl; words = below _ _ refl }, tt)
 runs_16 RestoreLink = (record { many = below _ _ refl; moves = below _ _ refl; words = below _ _ refl }, tt)
-runs_16 MoveStack =
-    (record { many = below _ _ refl; moves = below _ _ refl; words = below _ _ refl },
-     (record { many = below _ _ refl; moves = below _ _ refl; words = below _ _ refl }, tt))
+runs_16 MoveStack = (
+  record { many = below _ _ refl; moves = below _ _ refl; words = below _ _ refl },
+  (record { many = below _ _ refl; moves = below _ _ refl; words = below _ _ refl }, tt),
+)
 runs_16 _ = tt
 
 runs_32 : (pattern : Pattern) → AreRuns 32 (runs_of 32 pattern)
@@ -153,9 +154,10 @@ runs_32 LoadHome = (record { many = below _ _ refl; moves = below _ _ refl; word
 runs_32 StoreHome = (record { many = below _ _ refl; moves = below _ _ refl; words = below _ _ refl }, tt)
 runs_32 SaveLink = (record { many = below _ _ refl; moves = below _ _ refl; words = below _ _ refl }, tt)
 runs_32 RestoreLink = (record { many = below _ _ refl; moves = below _ _ refl; words = below _ _ refl }, tt)
-runs_32 MoveStack =
-    (record { many = below _ _ refl; moves = below _ _ refl; words = below _ _ refl },
-     (record { many = below _ _ refl; moves = below _ _ refl; words = below _ _ refl }, tt))
+runs_32 MoveStack = (
+  record { many = below _ _ refl; moves = below _ _ refl; words = below _ _ refl },
+  (record { many = below _ _ refl; moves = below _ _ refl; words = below _ _ refl }, tt),
+)
 runs_32 _ = tt
 
 pub are_runs : (w : ℕ) → IsWordSize w → (pattern : Pattern) → AreRuns w (runs_of w pattern)

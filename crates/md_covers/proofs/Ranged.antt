@@ -98,15 +98,19 @@ all_are row b _ _ (all_taken used) = refl
 
 pub single : (row : List Move) (b : List Bound) (e : Move) (left : Marks) → Takes row b no_marks (e ∷ []) left → Single row b e left
 single row b _ _ (taken e _ j r _ left is free a rest) = record {
-    place = j; move = r; is = is; alike = a; marks_are = all_are row b (set no_marks j true) left rest
-  }
+  place = j;
+  move = r;
+  is = is;
+  alike = a;
+  marks_are = all_are row b (set no_marks j true) left rest;
+}
 
 only_mark : (marks : Marks) (j k : ℕ) → set no_marks j true ≡ marks → is_marked marks k ≡ true → k ≡ j
 only_mark marks j k e m = elim (same_or_not k j) [
-    inl i ↦ i
+  | inl i ↦ i
   | inr d ↦ (let x : is_marked marks k ≡ false = subst (λ z. is_marked z k ≡ false) e (other_mark no_marks j k d (no_mark k)) in
       let y : true ≡ false = sym m ∙ x in cc)
-  ]
+]
 
 not_marked : (marks : Marks) (j k : ℕ) → set no_marks j true ≡ marks → (k ≡ j → ⊥) → is_marked marks k ≡ false
 not_marked marks j k e d = subst (λ z. is_marked z k ≡ false) e (other_mark no_marks j k d (no_mark k))
@@ -157,11 +161,20 @@ taken_at w g holes row n d =
     let v = alike_total (filled b s.move.value) e.value s.alike.value in
     let one = d.shape.one in let sum = d.shape.sum in
     record {
-      place = s.place; r = s.move; is = s.is;
+      place = s.place;
+      r = s.move;
+      is = s.is;
       at = record {
-        b = b; marks = d.by.marks; e = e; flagless = d.shape.flagless; does = does; marks_are = s.marks_are; alike = s.alike;
-        literal = omega (arith, p, q, one); sum = omega (arith, u, v, sum)
-      }
+        b = b;
+        marks = d.by.marks;
+        e = e;
+        flagless = d.shape.flagless;
+        does = does;
+        marks_are = s.marks_are;
+        alike = s.alike;
+        literal = omega (arith, p, q, one);
+        sum = omega (arith, u, v, sum);
+      };
     }
 
 -- an assignment that takes one that isn't to a flag isn't idle
@@ -172,10 +185,10 @@ not_idle g b r e f a i =
 
 same_place : (w g : ℕ) (holes : List Hole) (row : List Move) (m n : ℕ) → (s : Taken w g holes row m) → (t : Taken w g holes row n) → t.place ≡ s.place
 same_place w g holes row m n s t = elim (same_or_not t.place s.place) [
-    inl i ↦ i
+  | inl i ↦ i
   | inr d ↦ absurd (not_idle g t.at.b t.r t.at.e t.at.flagless t.at.alike
       (s.at.does.others t.r (record { place = t.place; is = t.is; marked = not_marked s.at.marks s.place t.place s.at.marks_are d })))
-  ]
+]
 
 same_move : (row : List Move) (i j : ℕ) (r s : Move) → slice_get row i ≡ Some r → slice_get row j ≡ Some s → j ≡ i → s ≡ r
 same_move row i j r s e f q = let x : slice_get row i ≡ Some s = subst (λ k. slice_get row k ≡ Some s) q f in cc
@@ -188,12 +201,12 @@ at_first w g holes row m n s t =
     subst (λ k. TakenAt w g holes row n k s.r) i (subst (λ k. TakenAt w g holes row n t.place k) j t.at)
 
 one_number : (w g : ℕ) (holes : List Hole) (row : List Move) (n place : ℕ) (r : Move) → IsRowTree holes (pair_tree r) → TakenAt w g holes row n place r
-  → numbers (pair_tree r) ≡ 1
+    → numbers (pair_tree r) ≡ 1
 one_number w g holes row n place r k t = sym (filled_literals w g holes t.b t.does.fit (pair_tree r) k) ∙ t.literal
 
 -- no number of its own
 no_literal : (w g : ℕ) (holes : List Hole) (row : List Move) (m n place : ℕ) (r : Move) → IsRowTree holes (pair_tree r) → (m ≡ n → ⊥)
-  → TakenAt w g holes row m place r → TakenAt w g holes row n place r → literals (pair_tree r) ≡ 0
+    → TakenAt w g holes row m place r → TakenAt w g holes row n place r → literals (pair_tree r) ≡ 0
 no_literal w g holes row m n place r k d s t =
     let one = one_number w g holes row m place r k s in
     by (gaps (pair_tree r)) refl one
@@ -207,7 +220,7 @@ no_literal w g holes row m n place r k d s t =
 
 -- its hole has each number
 hole_has : (w g : ℕ) (holes : List Hole) (row : List Move) (n place : ℕ) (r : Move) → slice_get row place ≡ Some r → IsRowTree holes (pair_tree r)
-  → TakenAt w g holes row n place r → (h : ℕ) → h < length holes → is_number_hole (slice_get holes h) ≡ true → fit_of w g holes h (Num n) ≡ true
+    → TakenAt w g holes row n place r → (h : ℕ) → h < length holes → is_number_hole (slice_get holes h) ≡ true → fit_of w g holes h (Num n) ≡ true
 hole_has w g holes row n place r is k t h l z =
     let x = number_at w g holes t.b t.does.fit h z in
     let y = t.does.bound h l in
@@ -221,22 +234,22 @@ hole_has w g holes row n place r is k t h l z =
 
 -- what can trap elsewhere has no number of its own
 part_of_pair : (b : List Bound) (x : Tree) (r : Move) → (occurs_by (filled b) x (goal_tree r.to) || occurs_by (filled b) x r.value) ≡ true
-  → IsLess (filled b x) (filled b (pair_tree r))
+    → IsLess (filled b x) (filled b (pair_tree r))
 part_of_pair b x r e = elim (or_true (occurs_by (filled b) x (goal_tree r.to)) (occurs_by (filled b) x r.value) e) [
-    inl p ↦ (let k = less_left (filled b x) (filled b (goal_tree r.to)) (filled b r.value) 0 (part_less b x (goal_tree r.to) p) in record { fewer = k.0; sum = k.1 })
+  | inl p ↦ (let k = less_left (filled b x) (filled b (goal_tree r.to)) (filled b r.value) 0 (part_less b x (goal_tree r.to) p) in record { fewer = k.0; sum = k.1 })
   | inr p ↦ (let k = less_right (filled b x) (filled b (goal_tree r.to)) (filled b r.value) 0 (part_less b x r.value p) in record { fewer = k.0; sum = k.1 })
-  ]
+]
 
 less_at : (w g : ℕ) (holes : List Hole) (row : List Move) (n place : ℕ) (r : Move) → slice_get row place ≡ Some r → (t : TakenAt w g holes row n place r)
-  → (x : Tree) → IsPartOfMarked row t.marks t.b x → IsLess (filled t.b x) (filled t.b (pair_tree r))
+    → (x : Tree) → IsPartOfMarked row t.marks t.b x → IsLess (filled t.b x) (filled t.b (pair_tree r))
 less_at w g holes row n place r is t x p =
     let i = only_mark t.marks place p.marked.place t.marks_are p.marked.marked in
     let j : p.move ≡ r = same_move row place p.marked.place r p.move is p.marked.is i in
     part_of_pair t.b x r (subst (λ m. (occurs_by (filled t.b) x (goal_tree m.to) || occurs_by (filled t.b) x m.value) ≡ true) j p.part)
 
 node_open : (w g : ℕ) (holes : List Hole) (row : List Move) (m n place : ℕ) (r : Move) → slice_get row place ≡ Some r → (m ≡ n → ⊥)
-  → (s : TakenAt w g holes row m place r) → (t : TakenAt w g holes row n place r)
-  → (x : Tree) → IsRowTree holes x → IsPartOfMarked row s.marks s.b x → IsPartOfMarked row t.marks t.b x → is_open x ≡ true
+    → (s : TakenAt w g holes row m place r) → (t : TakenAt w g holes row n place r)
+    → (x : Tree) → IsRowTree holes x → IsPartOfMarked row s.marks s.b x → IsPartOfMarked row t.marks t.b x → is_open x ≡ true
 node_open w g holes row m n place r is d s t x k p q = none_open x (by (literals x) refl)
   where
     by : (c : ℕ) → literals x ≡ c → literals x ≡ 0
@@ -283,36 +296,38 @@ open_traps (Unary o a) k =
     and_both (not (unary_traps o) || is_open (Unary o a)) (traps_pass is_open a) (to_test (unary_traps o) (is_open (Unary o a)) k.0) (open_traps a k.1)
 open_traps (Binary o a b) k =
     and_both (not (binary_traps o) || is_open (Binary o a b)) (traps_pass is_open a && traps_pass is_open b)
-      (to_test (binary_traps o) (is_open (Binary o a b)) k.0)
-      (and_both (traps_pass is_open a) (traps_pass is_open b) (open_traps a k.1) (open_traps b k.2))
+    (to_test (binary_traps o) (is_open (Binary o a b)) k.0)
+    (and_both (traps_pass is_open a) (traps_pass is_open b) (open_traps a k.1) (open_traps b k.2))
 open_traps _ k = refl
 
 pub traps_open : (t : Tree) → traps_pass is_open t ≡ true → AllTraps (λ x. is_open x ≡ true) t
 traps_open (Load w a) k = (and_left (is_open (Load w a)) (traps_pass is_open a) k, traps_open a (and_right (is_open (Load w a)) (traps_pass is_open a) k))
 traps_open (Unary o a) k =
-    let x = and_left (not (unary_traps o) || is_open (Unary o a)) (traps_pass is_open a) k in
-    ((λ e. under_test (unary_traps o) (is_open (Unary o a)) x e),
-     traps_open a (and_right (not (unary_traps o) || is_open (Unary o a)) (traps_pass is_open a) k))
+    let x = and_left (not (unary_traps o) || is_open (Unary o a)) (traps_pass is_open a) k in (
+      (λ e. under_test (unary_traps o) (is_open (Unary o a)) x e),
+      traps_open a (and_right (not (unary_traps o) || is_open (Unary o a)) (traps_pass is_open a) k),
+    )
 traps_open (Binary o a b) k =
     let x = and_left (not (binary_traps o) || is_open (Binary o a b)) (traps_pass is_open a && traps_pass is_open b) k in
-    let y = and_right (not (binary_traps o) || is_open (Binary o a b)) (traps_pass is_open a && traps_pass is_open b) k in
-    ((λ e. under_test (binary_traps o) (is_open (Binary o a b)) x e),
-     traps_open a (and_left (traps_pass is_open a) (traps_pass is_open b) y),
-     traps_open b (and_right (traps_pass is_open a) (traps_pass is_open b) y))
+    let y = and_right (not (binary_traps o) || is_open (Binary o a b)) (traps_pass is_open a && traps_pass is_open b) k in (
+      (λ e. under_test (binary_traps o) (is_open (Binary o a b)) x e),
+      traps_open a (and_left (traps_pass is_open a) (traps_pass is_open b) y),
+      traps_open b (and_right (traps_pass is_open a) (traps_pass is_open b) y),
+    )
 traps_open _ k = tt
 
 -- each assignment of the row
 move_open : (w g : ℕ) (holes : List Hole) (row : List Move) → ((j : ℕ) (r : Move) → slice_get row j ≡ Some r → IsRowMove holes r)
-  → (m n : ℕ) → (m ≡ n → ⊥) → (place : ℕ) (r : Move) → slice_get row place ≡ Some r → TakenAt w g holes row m place r → TakenAt w g holes row n place r
-  → (j : ℕ) (o : Move) → slice_get row j ≡ Some o → is_open_move o.to o.value ≡ true
+    → (m n : ℕ) → (m ≡ n → ⊥) → (place : ℕ) (r : Move) → slice_get row place ≡ Some r → TakenAt w g holes row m place r → TakenAt w g holes row n place r
+    → (j : ℕ) (o : Move) → slice_get row j ≡ Some o → is_open_move o.to o.value ≡ true
 move_open w g holes row kinds m n d place r is s t j o at = elim (same_or_not j place) [
-    inl i ↦
+  | inl i ↦
       (let same : o ≡ r = same_move row place j r o is at i in
       let k = kinds place r is in
       let none = no_literal w g holes row m n place r (k.place, k.value) d s t in
       let flag = not_flag (is_flag_goal r.to) refl in
       subst (λ z. is_open_move z.to z.value ≡ true) (sym same)
-        (open_other r.to r.value flag (none_open (goal_tree r.to) (omega (arith, none))) (none_open r.value (omega (arith, none)))))
+      (open_other r.to r.value flag (none_open (goal_tree r.to) (omega (arith, none))) (none_open r.value (omega (arith, none)))))
   | inr q ↦
       (let mark = not_marked s.marks place j s.marks_are q in
       let mark2 = not_marked t.marks place j t.marks_are q in
@@ -322,11 +337,11 @@ move_open w g holes row kinds m n d place r is s t j o at = elim (same_or_not j 
       let p2 = t.does.traps o (record { place = j; is = at; marked = mark2 }) in
       let k = row_traps holes o.value (kinds j o at).value in
       let both = traps_two (IsPartOfMarked row s.marks s.b) (IsPartOfMarked row t.marks t.b)
-          (λ x. IsPartOfMarked row s.marks s.b x × IsPartOfMarked row t.marks t.b x) (λ x u v. (u, v)) o.value p1 p2 in
+      (λ x. IsPartOfMarked row s.marks s.b x × IsPartOfMarked row t.marks t.b x) (λ x u v. (u, v)) o.value p1 p2 in
       open_flag o.to o.value flag (open_traps o.value
-        (traps_two (IsRowTree holes) (λ x. IsPartOfMarked row s.marks s.b x × IsPartOfMarked row t.marks t.b x) (λ x. is_open x ≡ true)
-          (λ x u v. node_open w g holes row m n place r is d s t x u v.0 v.1) o.value k both)))
-  ]
+      (traps_two (IsRowTree holes) (λ x. IsPartOfMarked row s.marks s.b x × IsPartOfMarked row t.marks t.b x) (λ x. is_open x ≡ true)
+      (λ x u v. node_open w g holes row m n place r is d s t x u v.0 v.1) o.value k both)))
+]
   where
     not_flag : (f : Bool) → is_flag_goal r.to ≡ f → is_flag_goal r.to ≡ false
     not_flag false e = e
@@ -335,7 +350,7 @@ move_open w g holes row kinds m n d place r is s t j o at = elim (same_or_not j 
         let z : true ≡ false = sym x ∙ s.flagless in cc
 
 hole_takes : (w g : ℕ) (o : Option Hole) (hole : Hole) (rs : List Run) → AreRuns w rs → o ≡ Some hole
-  → (is_number_hole o ≡ true → (n : ℕ) → IsOfSome rs n → fit_at w g o (Num n) ≡ true) → takes_runs w hole rs ≡ true
+    → (is_number_hole o ≡ true → (n : ℕ) → IsOfSome rs n → fit_at w g o (Num n) ≡ true) → takes_runs w hole rs ≡ true
 hole_takes w g o (NumHole low high inverted) rs k e f =
     some_take w g low high inverted rs k (λ n i. (let x = f (ap is_number_hole e) n i in subst (λ z. fit_at w g z (Num n) ≡ true) e x))
 hole_takes w g o (RegHole c) rs k e f = nothing rs
@@ -360,8 +375,8 @@ pub record TakesAll (w : ℕ) (holes : List Hole) (row : List Move) (rs : List R
   pub holes_take : (h : ℕ) (hole : Hole) → slice_get holes h ≡ Some hole → takes_runs w hole rs ≡ true
 
 pub covers_takes : (w g : ℕ) (holes : List Hole) (row : List Move) (run : Run) (rs : List Run) → AreRuns w (run ∷ rs)
-  → ((j : ℕ) (r : Move) → slice_get row j ≡ Some r → IsRowMove holes r)
-  → ((n : ℕ) → IsOfSome (run ∷ rs) n → DoneAt w g holes row n) → TakesAll w holes row (run ∷ rs)
+    → ((j : ℕ) (r : Move) → slice_get row j ≡ Some r → IsRowMove holes r)
+    → ((n : ℕ) → IsOfSome (run ∷ rs) n → DoneAt w g holes row n) → TakesAll w holes row (run ∷ rs)
 covers_takes w g holes row run rs k kinds all =
     let m = run.first in
     let n = run.first + run.step in
@@ -373,6 +388,6 @@ covers_takes w g holes row run rs k kinds all =
     record {
       moves = move_open w g holes row kinds m n different s.place s.r s.is s.at t;
       holes_take = λ h hole e. hole_takes w g (slice_get holes h) hole (run ∷ rs) k e (λ z i o.
-        hole_has w g holes row i s.place s.r s.is (kind.place, kind.value)
-          (at_first w g holes row m i s (taken_at w g holes row i (all i o))) h (slice_get_within holes h hole e) z)
+          hole_has w g holes row i s.place s.r s.is (kind.place, kind.value)
+          (at_first w g holes row m i s (taken_at w g holes row i (all i o))) h (slice_get_within holes h hole e) z);
     }

@@ -68,29 +68,29 @@ past d step s = omega arith
 
 gap_below : (a step h i : ℕ) → 0 < step → a + i * step < next_above a step h → a + i * step ≤ h
 gap_below a step h i s e = elim (split a h) [
-    inl k ↦
+  | inl k ↦
       (let n = next_later a step h k in
       elim (split i ((h - a) / step)) [
-        inl j ↦ (let p = steps i ((h - a) / step) step j in let u = up_to (h - a) step s in omega (arith, p, u, k))
-      | inr j ↦
-          (let z : (h - a) / step + 1 ≤ i = omega (arith, j) in
-          let p = steps ((h - a) / step + 1) i step z in absurd (omega (arith, p, n, e)))
+        | inl j ↦ (let p = steps i ((h - a) / step) step j in let u = up_to (h - a) step s in omega (arith, p, u, k))
+        | inr j ↦
+            (let z : (h - a) / step + 1 ≤ i = omega (arith, j) in
+            let p = steps ((h - a) / step + 1) i step z in absurd (omega (arith, p, n, e)))
       ])
   | inr k ↦ (let n = next_first a step h k in absurd (omega (arith, n, e)))
-  ]
+]
 
 gap_above : (a step h i : ℕ) → 0 < step → h < a + i * step → next_above a step h ≤ a + i * step
 gap_above a step h i s e = elim (split a h) [
-    inl k ↦
+  | inl k ↦
       (let n = next_later a step h k in
       elim (split i ((h - a) / step)) [
-        inl j ↦ (let p = steps i ((h - a) / step) step j in let u = up_to (h - a) step s in absurd (omega (arith, p, u, k, e)))
-      | inr j ↦
-          (let z : (h - a) / step + 1 ≤ i = omega (arith, j) in
-          let p = steps ((h - a) / step + 1) i step z in omega (arith, p, n))
+        | inl j ↦ (let p = steps i ((h - a) / step) step j in let u = up_to (h - a) step s in absurd (omega (arith, p, u, k, e)))
+        | inr j ↦
+            (let z : (h - a) / step + 1 ≤ i = omega (arith, j) in
+            let p = steps ((h - a) / step + 1) i step z in omega (arith, p, n))
       ])
   | inr k ↦ (let n = next_first a step h k in omega (arith, n))
-  ]
+]
 
 all_above : (z n u m l h : ℕ) → (nat_lt z n || nat_le m (n + l + 1)) ≡ true → n ≤ u → u ≤ z → (nat_le u h || nat_le m (u + l + 1)) ≡ true
 all_above z n u m l h e p q = grind (arith, nat_tests)
@@ -102,13 +102,13 @@ record Next (a step h : ℕ) : Type 0 where
 
 next_of : (a step h : ℕ) → 0 < step → Next a step h
 next_of a step h s = elim (split a h) [
-    inl k ↦
+  | inl k ↦
       (let n = next_later a step h k in let p = past (h - a) step s in
       record { place = (h - a) / step + 1; is = n; above = omega (arith, n, p, k) })
   | inr k ↦
       (let n = next_first a step h k in
       record { place = 0; is = omega (arith, n); above = omega (arith, n, k) })
-  ]
+]
 
 gap_test : (z n m l h : ℕ) → h < n → (nat_le n h || nat_le m (n + l + 1)) ≡ true → (nat_lt z n || nat_le m (n + l + 1)) ≡ true
 gap_test z n m l h p e = grind (arith, nat_tests)
@@ -118,17 +118,17 @@ gap_past z n m l p = grind (arith, nat_tests)
 
 -- the run a, a + step, .., a + last * step
 pub run_all : (w : ℕ) (low high : ℤ) (a last step : ℕ) → 0 < step → has_run w low high a (a + last * step) step ≡ true
-  → (i : ℕ) → i ≤ last → has w low high (a + i * step) ≡ true
+    → (i : ℕ) → i ≤ last → has w low high (a + i * step) ≡ true
 run_all w (pos l) (pos h) a last step s e i k = let p = steps i last step k in grind (arith, nat_tests)
 run_all w (negsuc l) (negsuc h) a last step s e i k = let p = steps i last step k in grind (arith, nat_tests)
 run_all w (pos l) (negsuc h) a last step s e i k = e
 run_all w (negsuc l) (pos h) a last step s e i k = elim (split (a + i * step) h) [
-    inl j ↦ grind (arith, nat_tests)
+  | inl j ↦ grind (arith, nat_tests)
   | inr j ↦ (let p = gap_above a step h i s j in let q = steps i last step k in all_above (a + last * step) (next_above a step h) (a + i * step) (2 ^ w) l h e p (omega (arith, q)))
-  ]
+]
 
 pub run_back : (w : ℕ) (low high : ℤ) (a last step : ℕ) → 0 < step
-  → ((i : ℕ) → i ≤ last → has w low high (a + i * step) ≡ true) → has_run w low high a (a + last * step) step ≡ true
+    → ((i : ℕ) → i ≤ last → has w low high (a + i * step) ≡ true) → has_run w low high a (a + last * step) step ≡ true
 run_back w (pos l) (pos h) a last step s all =
     let x = all 0 (omega arith) in let y = all last (omega arith) in grind (arith, nat_tests)
 run_back w (negsuc l) (negsuc h) a last step s all =
@@ -137,15 +137,15 @@ run_back w (pos l) (negsuc h) a last step s all = all 0 (omega arith)
 run_back w (negsuc l) (pos h) a last step s all =
     let n = next_of a step h s in
     elim (split n.place last) [
-      inl j ↦
-        (let x = all n.place j in
-        let y : (nat_le (next_above a step h) h || nat_le (2 ^ w) (next_above a step h + l + 1)) ≡ true =
-            subst (λ (u : ℕ). (nat_le u h || nat_le (2 ^ w) (u + l + 1)) ≡ true) (sym n.is) x in
-        gap_test (a + last * step) (next_above a step h) (2 ^ w) l h n.above y)
-    | inr j ↦
-        (let p = steps (last + 1) n.place step (omega (arith, j)) in
-        let i = n.is in
-        gap_past (a + last * step) (next_above a step h) (2 ^ w) l (omega (arith, p, i, s)))
+      | inl j ↦
+          (let x = all n.place j in
+          let y : (nat_le (next_above a step h) h || nat_le (2 ^ w) (next_above a step h + l + 1)) ≡ true =
+          subst (λ (u : ℕ). (nat_le u h || nat_le (2 ^ w) (u + l + 1)) ≡ true) (sym n.is) x in
+          gap_test (a + last * step) (next_above a step h) (2 ^ w) l h n.above y)
+      | inr j ↦
+          (let p = steps (last + 1) n.place step (omega (arith, j)) in
+          let i = n.is in
+          gap_past (a + last * step) (next_above a step h) (2 ^ w) l (omega (arith, p, i, s)))
     ]
 
 and_false : (t : Bool) → (t && false) ≡ false

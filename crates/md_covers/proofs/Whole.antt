@@ -90,8 +90,8 @@ register_fits w g SymHole n c e t = let q : false ≡ true = e in cc
 register_fits w g LabelHole n c e t = let q : false ≡ true = e in cc
 
 bound_fits : (w g : ℕ) (hole : Hole) (ranged : Bool) (p : Open) → IsGeneral g p.a → IsGeneral g p.b
-  → ((m : ℕ) → fits w g hole (Num m) ≡ true → fits w g hole (Num (put_number ranged p.number m)) ≡ true)
-  → (v : Bound) → fits w g hole v ≡ true → fits w g hole (changed_bound (to_open ranged p) v) ≡ true
+    → ((m : ℕ) → fits w g hole (Num m) ≡ true → fits w g hole (Num (put_number ranged p.number m)) ≡ true)
+    → (v : Bound) → fits w g hole v ≡ true → fits w g hole (changed_bound (to_open ranged p) v) ≡ true
 bound_fits w g hole ranged p a b num (Reg (Temp zero)) e = register_fits w g hole 0 p.a e a
 bound_fits w g hole ranged p a b num (Reg (Temp (suc zero))) e = register_fits w g hole 1 p.b e b
 bound_fits w g hole ranged p a b num (Reg (Temp (suc (suc n)))) e = e
@@ -113,8 +113,8 @@ bound_fits w g (RegHole c) ranged p a b num (Label n) e = e
 bound_fits w g (NumHole x y z) ranged p a b num (Label n) e = e
 
 at_fits : (w g : ℕ) (o : Option Hole) (ranged : Bool) (p : Open) → IsGeneral g p.a → IsGeneral g p.b
-  → ((hole : Hole) → o ≡ Some hole → (m : ℕ) → fits w g hole (Num m) ≡ true → fits w g hole (Num (put_number ranged p.number m)) ≡ true)
-  → (v : Bound) → fit_at w g o v ≡ true → fit_at w g o (changed_bound (to_open ranged p) v) ≡ true
+    → ((hole : Hole) → o ≡ Some hole → (m : ℕ) → fits w g hole (Num m) ≡ true → fits w g hole (Num (put_number ranged p.number m)) ≡ true)
+    → (v : Bound) → fit_at w g o v ≡ true → fit_at w g o (changed_bound (to_open ranged p) v) ≡ true
 at_fits w g None ranged p a b num v e = let q : false ≡ true = e in cc
 at_fits w g (Some hole) ranged p a b num v e = bound_fits w g hole ranged p a b (num hole refl) v e
 
@@ -131,32 +131,32 @@ abbrev NoFlag : Move → Type 0
 NoFlag e = is_flag_goal e.to ≡ false
 
 plain_fixed : (holes : List Hole) (row : List Move) → ((j : ℕ) (r : Move) → slice_get row j ≡ Some r → IsRowMove holes r)
-  → (p : Open) (j : ℕ) (r : Move) → slice_get row j ≡ Some r → IsFixedMove (to_open false p) r
+    → (p : Open) (j : ℕ) (r : Move) → slice_get row j ≡ Some r → IsFixedMove (to_open false p) r
 plain_fixed holes row kinds p j r is =
     let x = kinds j r is in record { place = fixed_any holes p (goal_tree r.to) x.place; value = fixed_any holes p r.value x.value }
 
 plain_carries : (w g : ℕ) (holes : List Hole) (row : List Move) → ((j : ℕ) (r : Move) → slice_get row j ≡ Some r → IsRowMove holes r)
-  → (p : Open) → IsGeneral g p.a → IsGeneral g p.b → (es : List Move) (b : List Bound) (marks : Marks)
-  → Does w g holes (is_idle 255 g) row es b marks → AtMostOne (map (changed_move (to_open false p)) es)
-  → Carries w g holes (to_open false p) row es b marks AnyMove
+    → (p : Open) → IsGeneral g p.a → IsGeneral g p.b → (es : List Move) (b : List Bound) (marks : Marks)
+    → Does w g holes (is_idle 255 g) row es b marks → AtMostOne (map (changed_move (to_open false p)) es)
+    → Carries w g holes (to_open false p) row es b marks AnyMove
 plain_carries w g holes row kinds p a b es c marks does one = record {
-    fits = λ h v e. at_fits w g (slice_get holes h) false p a b (λ hole q m f. f) v e;
-    kinds = each_all AnyMove (λ e. tt) es;
-    takes = record { each = λ j r e is q k. plain_fixed holes row kinds p j r is };
-    different = one_register g row (map (changed_bound (to_open false p)) c) marks (map (changed_move (to_open false p)) es) one
+  fits = λ h v e. at_fits w g (slice_get holes h) false p a b (λ hole q m f. f) v e;
+  kinds = each_all AnyMove (λ e. tt) es;
+  takes = record { each = λ j r e is q k. plain_fixed holes row kinds p j r is };
+  different = one_register g row (map (changed_bound (to_open false p)) c) marks (map (changed_move (to_open false p)) es) one
       (takes_changed (to_open false p) row c AnyMove (record { each = λ j r e is q k. plain_fixed holes row kinds p j r is }) no_marks marks es
-        (each_all AnyMove (λ e. tt) es) does.takes) does.others;
-    traps = λ r m. (let x = row_traps holes r.value (kinds m.place r m.is).value in
-      traps_two (IsRowTree holes) (IsRowTree holes) (IsFixed (to_open false p)) (λ t u v. fixed_any holes p t u) r.value x x)
-  }
+      (each_all AnyMove (λ e. tt) es) does.takes) does.others;
+  traps = λ r m. (let x = row_traps holes r.value (kinds m.place r m.is).value in
+      traps_two (IsRowTree holes) (IsRowTree holes) (IsFixed (to_open false p)) (λ t u v. fixed_any holes p t u) r.value x x);
+}
 
 number_fits : (w g : ℕ) (holes : List Hole) (row : List Move) (rs : List Run) → AreRuns w rs → TakesAll w holes row rs → (p : Open) → IsOfSome rs p.number
-  → (h : ℕ) (hole : Hole) → slice_get holes h ≡ Some hole → (m : ℕ) → fits w g hole (Num m) ≡ true → fits w g hole (Num (put_number true p.number m)) ≡ true
+    → (h : ℕ) (hole : Hole) → slice_get holes h ≡ Some hole → (m : ℕ) → fits w g hole (Num m) ≡ true → fits w g hole (Num (put_number true p.number m)) ≡ true
 number_fits w g holes row rs k t p i h hole e m f = takes_some w g hole rs k m f (t.holes_take h hole e) p.number i
 
 taken_fixed : (w : ℕ) (holes : List Hole) (row : List Move) (rs : List Run) → ((j : ℕ) (r : Move) → slice_get row j ≡ Some r → IsRowMove holes r)
-  → TakesAll w holes row rs → (p : Open) (b : List Bound) (j : ℕ) (r e : Move) → slice_get row j ≡ Some r → NoFlag e → IsAlikeMove b r e
-  → IsFixedMove (to_open true p) r
+    → TakesAll w holes row rs → (p : Open) (b : List Bound) (j : ℕ) (r e : Move) → slice_get row j ≡ Some r → NoFlag e → IsAlikeMove b r e
+    → IsFixedMove (to_open true p) r
 taken_fixed w holes row rs kinds t p b j r e is q k = by (is_flag_goal r.to) refl
   where
     by : (f : Bool) → is_flag_goal r.to ≡ f → IsFixedMove (to_open true p) r
@@ -167,59 +167,61 @@ taken_fixed w holes row rs kinds t p b j r e is q k = by (is_flag_goal r.to) ref
         record { place = fixed_open holes p (goal_tree r.to) x.place o.0; value = fixed_open holes p r.value x.value o.1 }
 
 ranged_carries : (w g : ℕ) (holes : List Hole) (row : List Move) (rs : List Run) → AreRuns w rs → ((j : ℕ) (r : Move) → slice_get row j ≡ Some r → IsRowMove holes r)
-  → TakesAll w holes row rs → (p : Open) → IsGeneral g p.a → IsGeneral g p.b → IsOfSome rs p.number
-  → (es : List Move) → Each NoFlag es → (b : List Bound) (marks : Marks)
-  → Does w g holes (is_idle 255 g) row es b marks → AtMostOne (map (changed_move (to_open true p)) es)
-  → Carries w g holes (to_open true p) row es b marks NoFlag
+    → TakesAll w holes row rs → (p : Open) → IsGeneral g p.a → IsGeneral g p.b → IsOfSome rs p.number
+    → (es : List Move) → Each NoFlag es → (b : List Bound) (marks : Marks)
+    → Does w g holes (is_idle 255 g) row es b marks → AtMostOne (map (changed_move (to_open true p)) es)
+    → Carries w g holes (to_open true p) row es b marks NoFlag
 ranged_carries w g holes row rs k kinds t p a b i es q c marks does one = record {
-    fits = λ h v e. at_fits w g (slice_get holes h) true p a b (λ hole z m f. number_fits w g holes row rs k t p i h hole z m f) v e;
-    kinds = q;
-    takes = record { each = λ j r e is n x. taken_fixed w holes row rs kinds t p c j r e is n x };
-    different = one_register g row (map (changed_bound (to_open true p)) c) marks (map (changed_move (to_open true p)) es) one
+  fits = λ h v e. at_fits w g (slice_get holes h) true p a b (λ hole z m f. number_fits w g holes row rs k t p i h hole z m f) v e;
+  kinds = q;
+  takes = record { each = λ j r e is n x. taken_fixed w holes row rs kinds t p c j r e is n x };
+  different = one_register g row (map (changed_bound (to_open true p)) c) marks (map (changed_move (to_open true p)) es) one
       (takes_changed (to_open true p) row c NoFlag (record { each = λ j r e is n x. taken_fixed w holes row rs kinds t p c j r e is n x }) no_marks marks es
-        q does.takes) does.others;
-    traps = λ r m. (let x = row_traps holes r.value (kinds m.place r m.is).value in
+      q does.takes) does.others;
+  traps = λ r m. (let x = row_traps holes r.value (kinds m.place r m.is).value in
       let f = flag_goal 255 r.to (and_left (is_flag_of 255 r.to) (names_none g r.value) (does.others r m)) in
       let o = traps_open r.value (flag_open r.to r.value f (t.moves m.place r m.is)) in
-      traps_two (IsRowTree holes) (λ z. is_open z ≡ true) (IsFixed (to_open true p)) (λ z u v. fixed_open holes p z u v) r.value x o)
-  }
+      traps_two (IsRowTree holes) (λ z. is_open z ≡ true) (IsFixed (to_open true p)) (λ z u v. fixed_open holes p z u v) r.value x o);
+}
 
 one_flagless : (es : List Move) (n : ℕ) → OneMove es n → Each NoFlag es
 one_flagless es n o = subst (Each NoFlag) (sym o.is) (o.flagless, tt)
 
 by_runs : (w g : ℕ) (holes : List Hole) (row : List Move) (m : Frame) (pattern : Pattern) (rs : List Run) → runs_of w pattern ≡ rs → AreRuns w rs
-  → has_transfer m pattern ≡ true → ((j : ℕ) (r : Move) → slice_get row j ≡ Some r → IsRowMove holes r)
-  → (has_runs rs ≡ true → TakesAll w holes row rs)
-  → IsDoneBySome w g holes row (shape_moves m pattern (example (first_number rs)))
-  → (p : Open) → IsGeneral g p.a → IsGeneral g p.b → IsNumberOf rs p.number
-  → (b : Bool) → has_runs rs ≡ b → AtMostOne (map (changed_move (to_open b p)) (shape_moves m pattern (example (first_number rs)))) → IsDoneBySome w g holes row (map (changed_move (to_open b p)) (shape_moves m pattern (example (first_number rs))))
+    → has_transfer m pattern ≡ true → ((j : ℕ) (r : Move) → slice_get row j ≡ Some r → IsRowMove holes r)
+    → (has_runs rs ≡ true → TakesAll w holes row rs)
+    → IsDoneBySome w g holes row (shape_moves m pattern (example (first_number rs)))
+    → (p : Open) → IsGeneral g p.a → IsGeneral g p.b → IsNumberOf rs p.number
+    → (b : Bool) → has_runs rs ≡ b → AtMostOne (map (changed_move (to_open b p)) (shape_moves m pattern (example (first_number rs)))) → IsDoneBySome w g holes row (map (changed_move (to_open b p)) (shape_moves m pattern (example (first_number rs))))
 by_runs w g holes row m pattern [] e k t kinds all done p a b n true h o = let q : false ≡ true = h in cc
 by_runs w g holes row m pattern (r ∷ rs) e k t kinds all done p a b n false h o = let q : true ≡ false = h in cc
 by_runs w g holes row m pattern [] e k t kinds all done p a b n false h o =
     let es = shape_moves m pattern (example 0) in
     record {
-      binding = map (changed_bound (to_open false p)) done.binding; marks = done.marks;
+      binding = map (changed_bound (to_open false p)) done.binding;
+      marks = done.marks;
       does = does_changed w g holes (is_idle 255 g) (to_open false p) row es done.binding done.marks AnyMove
-        (plain_carries w g holes row kinds p a b es done.binding done.marks done.does o) done.does
+          (plain_carries w g holes row kinds p a b es done.binding done.marks done.does o) done.does;
     }
 by_runs w g holes row m pattern (r ∷ rs) e k t kinds all done p a b n true h o =
     let es = shape_moves m pattern (example r.first) in
     let one = one_move w m pattern t (ap has_runs e) r.first in
     record {
-      binding = map (changed_bound (to_open true p)) done.binding; marks = done.marks;
+      binding = map (changed_bound (to_open true p)) done.binding;
+      marks = done.marks;
       does = does_changed w g holes (is_idle 255 g) (to_open true p) row es done.binding done.marks NoFlag
-        (ranged_carries w g holes row (r ∷ rs) k kinds (all refl) p a b n es (one_flagless es r.first one) done.binding done.marks done.does o) done.does
+          (ranged_carries w g holes row (r ∷ rs) k kinds (all refl) p a b n es (one_flagless es r.first one) done.binding done.marks done.does o) done.does;
     }
 
 pub from_example : (w g : ℕ) (holes : List Hole) (row : List Move) (m : Frame) (pattern : Pattern) → IsWordSize w
-  → has_transfer m pattern ≡ true → ((j : ℕ) (r : Move) → slice_get row j ≡ Some r → IsRowMove holes r)
-  → (has_runs (runs_of w pattern) ≡ true → TakesAll w holes row (runs_of w pattern))
-  → IsDoneBySome w g holes row (shape_moves m pattern (example (first_number (runs_of w pattern))))
-  → (p : Open) → IsOpenOf w g pattern p → IsDoneBySome w g holes row (shape_moves m pattern p)
+    → has_transfer m pattern ≡ true → ((j : ℕ) (r : Move) → slice_get row j ≡ Some r → IsRowMove holes r)
+    → (has_runs (runs_of w pattern) ≡ true → TakesAll w holes row (runs_of w pattern))
+    → IsDoneBySome w g holes row (shape_moves m pattern (example (first_number (runs_of w pattern))))
+    → (p : Open) → IsOpenOf w g pattern p → IsDoneBySome w g holes row (shape_moves m pattern p)
 from_example w g holes row m pattern z t kinds all done p o =
     subst (IsDoneBySome w g holes row) (sym (moved w m pattern p (first_number (runs_of w pattern))))
-      (by_runs w g holes row m pattern (runs_of w pattern) refl (are_runs w z pattern) t kinds all done p o.a o.b o.number
-        (has_runs (runs_of w pattern)) refl (subst AtMostOne (moved w m pattern p (first_number (runs_of w pattern))) (at_most_one m pattern p)))
+    (by_runs w g holes row m pattern (runs_of w pattern) refl (are_runs w z pattern) t kinds all done p o.a o.b o.number
+    (has_runs (runs_of w pattern)) refl (subst AtMostOne (moved w m pattern p (first_number (runs_of w pattern))) (at_most_one m pattern p)))
 
 -- and back
 
@@ -228,26 +230,26 @@ first_is w [] k = tt
 first_is w (r ∷ rs) k = inl (first_of w r k.0)
 
 pub to_example : (w g : ℕ) (holes : List Hole) (row : List Move) (m : Frame) (pattern : Pattern) → IsWordSize w
-  → ((p : Open) → IsOpenOf w g pattern p → IsDoneBySome w g holes row (shape_moves m pattern p))
-  → IsDoneBySome w g holes row (shape_moves m pattern (example (first_number (runs_of w pattern))))
+    → ((p : Open) → IsOpenOf w g pattern p → IsDoneBySome w g holes row (shape_moves m pattern p))
+    → IsDoneBySome w g holes row (shape_moves m pattern (example (first_number (runs_of w pattern))))
 to_example w g holes row m pattern z each =
     each (example (first_number (runs_of w pattern))) (record { a = tt; b = tt; number = first_is w (runs_of w pattern) (are_runs w z pattern) })
 
 takes_by : (w g : ℕ) (holes : List Hole) (row : List Move) (m : Frame) (pattern : Pattern) → has_transfer m pattern ≡ true
-  → ((j : ℕ) (r : Move) → slice_get row j ≡ Some r → IsRowMove holes r)
-  → ((p : Open) → IsOpenOf w g pattern p → IsDoneBySome w g holes row (shape_moves m pattern p))
-  → (rs : List Run) → runs_of w pattern ≡ rs → AreRuns w rs → has_runs rs ≡ true → TakesAll w holes row rs
+    → ((j : ℕ) (r : Move) → slice_get row j ≡ Some r → IsRowMove holes r)
+    → ((p : Open) → IsOpenOf w g pattern p → IsDoneBySome w g holes row (shape_moves m pattern p))
+    → (rs : List Run) → runs_of w pattern ≡ rs → AreRuns w rs → has_runs rs ≡ true → TakesAll w holes row rs
 takes_by w g holes row m pattern t kinds each [] e k h = let q : false ≡ true = h in cc
 takes_by w g holes row m pattern t kinds each (r ∷ rs) e k h =
     covers_takes w g holes row r rs k kinds (λ n i. record {
       es = shape_moves m pattern (example n);
       shape = one_move w m pattern t (ap has_runs e) n;
-      by = each (example n) (record { a = tt; b = tt; number = subst (λ x. IsNumberOf x n) (sym e) i })
+      by = each (example n) (record { a = tt; b = tt; number = subst (λ x. IsNumberOf x n) (sym e) i });
     })
 
 pub to_takes : (w g : ℕ) (holes : List Hole) (row : List Move) (m : Frame) (pattern : Pattern) → IsWordSize w → has_transfer m pattern ≡ true
-  → ((j : ℕ) (r : Move) → slice_get row j ≡ Some r → IsRowMove holes r)
-  → ((p : Open) → IsOpenOf w g pattern p → IsDoneBySome w g holes row (shape_moves m pattern p))
-  → has_runs (runs_of w pattern) ≡ true → TakesAll w holes row (runs_of w pattern)
+    → ((j : ℕ) (r : Move) → slice_get row j ≡ Some r → IsRowMove holes r)
+    → ((p : Open) → IsOpenOf w g pattern p → IsDoneBySome w g holes row (shape_moves m pattern p))
+    → has_runs (runs_of w pattern) ≡ true → TakesAll w holes row (runs_of w pattern)
 to_takes w g holes row m pattern z t kinds each h =
     takes_by w g holes row m pattern t kinds each (runs_of w pattern) refl (are_runs w z pattern) h

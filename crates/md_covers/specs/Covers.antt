@@ -86,7 +86,7 @@ pub record Covers (d : RawDescription) (r : Row) (s : Shape) : Type 0 where
   pub line : longest_line d.registers r.holes r.text ≤ 640
   pub few : length r.holes ≤ 8
   pub each : (p : Open) → IsOpenOf d.word (general_bits d.registers) pattern p
-    → IsDoneBySome d.word (general_bits d.registers) r.holes r.normal (shape_moves frame pattern p)
+      → IsDoneBySome d.word (general_bits d.registers) r.holes r.normal (shape_moves frame pattern p)
 
 -- rows as texts give them
 

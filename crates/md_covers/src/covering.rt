@@ -64,7 +64,12 @@ fn covers_row(bits: u32, general: u64, r: &Row, frame: Frame, pattern: Pattern) 
 {
     let holes = holes_of(r);
     let row = normal_of(r);
-    let subject = Subject { bits, general, holes, row };
+    let subject = Subject {
+        bits,
+        general,
+        holes,
+        row,
+    };
     covers_pattern(&subject, frame, pattern)
 }
 

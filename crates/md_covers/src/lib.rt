@@ -6,6 +6,7 @@
 #![tactic(auto)]
 
 mod covering;
+pub mod laws;
 mod lines;
 mod numbers;
 mod openness;

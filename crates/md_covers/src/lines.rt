@@ -62,7 +62,13 @@ fn space(word: bool, next: bool) -> usize
 }
 
 // Whether the pieces from a place on, behind a word or behind none, take at most so many bytes.
-fn is_within(registers: &[Register], holes: &[Hole], text: &[Piece], from: usize, most: usize) -> bool
+fn is_within(
+    registers: &[Register],
+    holes: &[Hole],
+    text: &[Piece],
+    from: usize,
+    most: usize,
+) -> bool
     ensures { result ≡ nat_le (bytes_after registers.now holes.now false (drop from text.now)) most }
 {
     let mut left = most;

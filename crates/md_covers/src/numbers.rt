@@ -31,7 +31,11 @@ fn least_step(bits: u32) -> u32
     ensures value { result ≡ 2 ^ bits - 32000 }
     ensures word { result < 2 ^ bits }
 {
-    if bits == 16 { 0x1_0000 - 32_000 } else { 0xffff_ffff - 31_999 }
+    if bits == 16 {
+        0x1_0000 - 32_000
+    } else {
+        0xffff_ffff - 31_999
+    }
 }
 
 fn last_step(bits: u32) -> u32
@@ -61,7 +65,11 @@ fn takes(bits: u32, hole: Hole, a: u32, z: u32, step: u32) -> bool
     ensures { result ≡ takes_between bits hole a z step }
 {
     match hole {
-        Hole::Num { low, high, inverted } => {
+        Hole::Num {
+            low,
+            high,
+            inverted,
+        } => {
             let most = greatest_word(bits);
             if inverted {
                 has_run(bits, low, high, most - z, most - a, step)
@@ -106,7 +114,8 @@ pub(crate) fn first_number(bits: u32, pattern: Pattern) -> u32
     ensures { result ≡ first_of (runs_of bits pattern) }
 {
     match pattern {
-        Pattern::LoadHome | Pattern::StoreHome | Pattern::SaveLink | Pattern::RestoreLink => bits / 8,
+        Pattern::LoadHome | Pattern::StoreHome | Pattern::SaveLink | Pattern::RestoreLink => bits
+            / 8,
         Pattern::MoveStack => bits / 8,
         _ => 0,
     }

@@ -19,7 +19,11 @@ fn after(a: u32, step: u32, high: u64) -> u64
 {
     let a = u64::from(a);
     let step = u64::from(step);
-    if high < a { a } else { a + ((high - a) / step + 1) * step }
+    if high < a {
+        a
+    } else {
+        a + ((high - a) / step + 1) * step
+    }
 }
 
 /// Whether a hole for the numbers from `low` to `high` has each of the words a, a + step, .., z.

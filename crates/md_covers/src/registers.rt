@@ -56,7 +56,12 @@ pub(crate) fn frame_in(d: &RawDescription) -> Option<Frame>
     let result = first_with(Role::Result, registers);
     let link = first_with(Role::Link, registers);
     match (stack, result) {
-        (Some(stack), Some(result)) => Some(Frame { stack, result, link, memory: d.memory }),
+        (Some(stack), Some(result)) => Some(Frame {
+            stack,
+            result,
+            link,
+            memory: d.memory,
+        }),
         _ => None,
     }
 }

@@ -1,10 +1,10 @@
 -- Leaves that stand in no shape.
-use Rattle.std.proofs.Common.{◌≡◌, ℕ, Option, Some, None, refl}
-use Rattle.rtl_tree.specs.Trees.{Tree, tree_of}
+use Rattle.std.proofs.Common.{◌≡◌, ℕ, None, refl}
+use Rattle.rtl_tree.specs.Trees.{tree_of}
 use Rattle.rtl_tree.specs.declared.cells.Cell.{Cell as CellType}
 use Rattle.rtl_tree.specs.declared.cells.Lab.{Lab}
 use Rattle.rtl_tree.specs.declared.expressions.Expr.{Expr}
-use Rattle.rtl_tree.specs.declared.expressions.Expr.TheVariants.{Num, Sym, Label, Cell as Leaf, Mem' as ExprMem', Un' as ExprUn', Bin' as ExprBin', Lost, NumHole, NameHole}
+use Rattle.rtl_tree.specs.declared.expressions.Expr.TheVariants.{Num, Sym, Label, Cell as Leaf, Lost, NumHole, NameHole}
 use Rattle.md_match.specs.Slots.{Slots, Fit}
 use Rattle.md_match.specs.Find.{leaf}
 use Rattle.md_shapes.specs.declared.drawing.Drawn.{Drawn}

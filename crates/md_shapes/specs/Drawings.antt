@@ -1,5 +1,5 @@
 -- Trees that stand on the stack, and the search that compares a row with them.
-use Rattle.std.specs.Prelude.{ℕ, ◌+◌, List, map, drop, length, is_some, Bool, Option}
+use Rattle.std.specs.Prelude.{ℕ, ◌+◌, List, map, drop, length, Option}
 use Rattle.rtl_word.specs.Words.{IsWordSize}
 use Rattle.rtl_tree.specs.Trees.{Tree, Number as NumberTree, Symbol as SymbolTree, CodeLabel, Read, Load, Unary, Binary, tree_of}
 use Rattle.rtl_tree.specs.Moves.{Goal, ToCell, ToMemory, Move}

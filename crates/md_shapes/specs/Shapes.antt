@@ -1,5 +1,5 @@
 -- The shapes: the list of them all, and the transfer of each as a function of what it leaves open.
-use Rattle.std.specs.Prelude.{ℕ, zero, suc, ◌+◌, ◌-◌, ◌/◌, ◌%◌, ◌^◌, ◌<◌, ◌≡◌, Bool, true, false, nat_lt, if◌then◌else◌, ◌==◌, ◌&&◌, is_some, List, [], ◌∷◌, ◌++◌, map, get_or, Option, Some, None}
+use Rattle.std.specs.Prelude.{ℕ, zero, suc, ◌+◌, ◌-◌, ◌/◌, ◌%◌, ◌^◌, Bool, true, false, nat_lt, if◌then◌else◌, ◌==◌, ◌&&◌, is_some, List, [], ◌∷◌, ◌++◌, map, get_or, Option, Some, None}
 use Rattle.rtl_word.specs.declared.Rel.{Rel}
 use Rattle.rtl_word.specs.declared.Rel.TheVariants.{Eq, Ne, Lt, Le, Gt, Ge, Ltu, Leu, Gtu, Geu}
 use Rattle.rtl_tree.specs.declared.cells.Cell.{Cell}
@@ -11,7 +11,7 @@ use Rattle.rtl_tree.specs.declared.expressions.Width.TheVariants.{Byte, Full}
 use Rattle.rtl_tree.specs.declared.expressions.UnOp.TheVariants.{Not, Sxb, Test}
 use Rattle.rtl_tree.specs.declared.expressions.BinOp.TheVariants.{Add, And, Cmp, Pair, When}
 use Rattle.rtl_tree.specs.Trees.{Tree, Number, Symbol, CodeLabel, Read, Load as LoadTree, Unary, Binary}
-use Rattle.rtl_tree.specs.Moves.{Goal, ToCell, ToMemory, Move}
+use Rattle.rtl_tree.specs.Moves.{ToCell, ToMemory, Move}
 use Rattle.md_match.specs.Slots.{no_slots}
 use Rattle.md_match.specs.Searches.{Search, match_all, no_marks}
 use Rattle.md_shapes.specs.declared.table.Shape.{Shape}

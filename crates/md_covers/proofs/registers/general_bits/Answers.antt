@@ -7,8 +7,8 @@ use Rattle.md_covers.proofs.registers.general_bits.Goals as goal
 pub loop-i-preserved : goal.loop-i-preserved
 loop-i-preserved c =
     subst (λ (n : ℕ). bit_or (bit_or c.loop-i.bits n) (general_bits (drop (c.loop-i.i + 1) c.args.registers.now)) ≡ general_bits c.args.registers.now)
-      (sym c.general_bit-bits.ensures)
-      (bits_next c.args.registers.now c.loop-i.i c.index-registers-i.result c.loop-i.bits c.loop-i-test.true c.index-registers-i.is ∙ c.loop-i.invariant)
+    (sym c.general_bit-bits.ensures)
+    (bits_next c.args.registers.now c.loop-i.i c.index-registers-i.result c.loop-i.bits c.loop-i-test.true c.index-registers-i.is ∙ c.loop-i.invariant)
 
 pub returns : goal.returns
 returns c =

@@ -1,4 +1,4 @@
-use Rattle.std.proofs.Common.{rules, arith, ◌≡◌, ◌∙◌, sym, ap, ◌+◌, drop, map, true, false, get_or}
+use Rattle.std.proofs.Common.{arith, ◌≡◌, ◌∙◌, sym, ap, ◌+◌, drop, map, get_or}
 use Rattle.rtl_tree.specs.Trees.{tree_of}
 use Rattle.rtl_tree.specs.Moves.{Move, goal_of}
 use Rattle.md_match.proofs.Size.{has_size}

@@ -1,5 +1,4 @@
 use Rattle.std.proofs.Common.{◌≡◌, ◌+◌, drop, map}
-use Rattle.rtl_tree.specs.Trees.{tree_of}
 use Rattle.md_match.specs.Find.{size}
 use Rattle.md_match.specs.Searches.{match_all, pick, moves_size, goal_tree}
 use Rattle.md_shapes.specs.Drawings.{search_of, todo_size, drawn_move, drawn_tree, drawn_goal}

@@ -1,9 +1,9 @@
-use Rattle.std.proofs.Common.{◌≡◌, ◌∙◌, ◌<◌, ◌+◌, ℕ, length, refl, subst, sym, get_or, set, map, arith, rules}
+use Rattle.std.proofs.Common.{◌≡◌, ◌∙◌, ◌<◌, ◌+◌, ℕ, subst, sym, get_or, set, arith}
 use Rattle.std.proofs.lemmas.List.{length-set}
 use Rattle.std.proofs.lemmas.List.Edits.{fill_by_more}
 use Rattle.std.proofs.lemmas.List.FromFn.{fill_by_all}
 use Rattle.md_shapes.specs.declared.table.Shape.{Shape}
-use Rattle.md_shapes.specs.Shapes.{shape_by, all_shapes}
+use Rattle.md_shapes.specs.Shapes.{shape_by}
 use Rattle.md_shapes.proofs.table.shapes.Goals as goal
 
 pub loop-place-preserved : goal.loop-place-preserved

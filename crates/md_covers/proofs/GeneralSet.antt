@@ -5,6 +5,7 @@ use Rattle.std.specs.Int.{bit_at}
 use Rattle.std.specs.Int.Bits.{or_add_and}
 use Rattle.std.proofs.lemmas.Bool.Decides.{nat_tests}
 use Rattle.std.proofs.lemmas.Nat.Bits.{bit_at-zero, bit_at_or, bit_at_and, bit_at-pow_other, bit_at-pow_same, bit_at-lt, same_from_bits}
+use Rattle.std.specs.List.{fold}
 use Rattle.rtl_tree.proofs.Pairs.{AllPairs-first, AllPairs-rest}
 use Rattle.md_rows.specs.declared.description.Register.{Register}
 use Rattle.md_rows.specs.declared.description.Role.{Role}
@@ -38,7 +39,7 @@ absent n (r ∷ rs) small apart =
     let b : bit_at (general_bit r.role r.number) n ≡ 0 =
     ap (λ x. bit_at x n) (bit_is r.role r.number (small 0 r refl)) ∙ other_bit r.role r.number n (apart 0 r refl) in
     let c = absent n rs (λ j s e. small (suc j) s e) (λ j s e. apart (suc j) s e) in
-    a ∙ (ap (λ x. max x (bit_at (general_bits rs) n)) b ∙ c)
+    a ∙ (ap (λ x. max x (bit_at (general_bits rs) n)) b ∙ ap (λ y. max 0 y) c)
 
 apart_bits : (role : Role) (n g : ℕ) → bit_at g n ≡ 0 → bit_and (role_bit role n) g ≡ 0
 apart_bits role n g e = same_from_bits (bit_and (role_bit role n) g) 0 (λ i. elim (same_or_not i n) [
@@ -52,6 +53,13 @@ apart_bits role n g e = same_from_bits (bit_and (role_bit role n) g) 0 (λ i. el
       let z = bit_at-zero i in omega (arith, a, b, z))
 ])
 
+sum_from : (a : ℕ) (xs : List ℕ) → fold ◌+◌ a xs ≡ a + fold ◌+◌ 0 xs
+sum_from a [] = omega arith
+sum_from a (x ∷ xs) = let p = sum_from (a + x) xs in let q = sum_from (0 + x) xs in omega (arith, p, q)
+
+sum_first : (x : ℕ) (xs : List ℕ) → sum (x ∷ xs) ≡ x + sum xs
+sum_first x xs = let p = sum_from (0 + x) xs in omega (arith, p)
+
 bits_by : (rs : List Register) → ((j : ℕ) (r : Register) → slice_get rs j ≡ Some r → r.number < 64)
     → AllPairs (λ r s. r.number ≢ s.number) rs → general_bits rs ≡ general_set rs
 bits_by [] small apart = refl
@@ -62,7 +70,9 @@ bits_by (r ∷ rs) small apart =
     let none = absent r.number rs (λ j s e. small (suc j) s e) (λ j s e. all_at (λ s. r.number ≢ s.number) rs first j s e) in
     let z = apart_bits r.role r.number (general_bits rs) none in
     let o = or_add_and (role_bit r.role r.number) (general_bits rs) in
-    ap (λ x. bit_or x (general_bits rs)) i ∙ omega (arith, o, z, g)
+    let s : general_set (r ∷ rs) ≡ role_bit r.role r.number + general_set rs = sum_first (role_bit r.role r.number) (map (λ x. role_bit x.role x.number) rs) in
+    let t : bit_or (role_bit r.role r.number) (general_bits rs) ≡ general_set (r ∷ rs) = omega (arith, o, z, g, s) in
+    ap (λ x. bit_or x (general_bits rs)) i ∙ t
 
 pub bits_are_set : (rs : List Register) → All (λ r. r.number < 64) rs → AllPairs (λ r s. r.number ≢ s.number) rs → general_bits rs ≡ general_set rs
 bits_are_set rs small apart = bits_by rs (λ j r e. all_at (λ r. r.number < 64) rs small j r e) apart

@@ -1,24 +1,21 @@
 -- What is alike stays alike where leaves are changed, and what a row does it does after a change.
-use Rattle.std.proofs.Common.{◌≡◌, ◌⊎◌, ℕ, zero, suc, ◌+◌, ◌<◌, Bool, true, false, ◌||◌, List, [], ◌∷◌, map, length, set, slice_get, Option, Some, None, inl, inr, refl, sym, subst, ap, arith, ◌∙◌}
+use Rattle.std.proofs.Common.{◌≡◌, ◌⊎◌, ℕ, zero, suc, Bool, true, false, ◌||◌, List, [], ◌∷◌, map, length, set, slice_get, Some, None, inl, inr, refl, sym, subst, ap, arith, ◌∙◌}
 use Rattle.std.specs.Prelude.{◌≢◌, AllPairs, filter_map}
 use Rattle.rtl_tree.specs.Trees.{Tree, Number, Symbol, CodeLabel, Read, Load, Unary, Binary, NoPair, AnyNumber, AnyName}
 use Rattle.rtl_tree.specs.Moves.{Goal, ToCell, ToMemory, Move}
-use Rattle.rtl_tree.specs.Likeness.{commutes, IsAlike, equal, loads, unaries, straight, crossed}
+use Rattle.rtl_tree.specs.Likeness.{IsAlike, equal, loads, unaries, straight, crossed}
 use Rattle.rtl_tree.specs.Same.{same_tree}
 use Rattle.rtl_tree.proofs.Equality.{same_tree-is, same_tree-own}
 use Rattle.rtl_tree.specs.declared.cells.Cell.{Cell}
 use Rattle.rtl_tree.specs.declared.cells.Cell.TheVariants.{Hard, Temp, Flag, Pc, Input, Output, Halt, Hole as RegisterHole}
 use Rattle.rtl_tree.specs.declared.cells.Lab.{Lab}
-use Rattle.rtl_tree.specs.declared.expressions.Width.{Width}
-use Rattle.rtl_tree.specs.declared.expressions.UnOp.{UnOp}
-use Rattle.rtl_tree.specs.declared.expressions.BinOp.{BinOp}
 use Rattle.md_rows.specs.declared.row.Hole.{Hole}
 use Rattle.md_rows.specs.declared.instance.Bound.{Bound}
 use Rattle.md_rows.specs.declared.instance.Bound.TheVariants.{Reg, Num, Sym, Label}
-use Rattle.md_rows.specs.Instances.{leaf_of, held_by, filled, AllFit}
+use Rattle.md_rows.specs.Instances.{leaf_of, held_by, filled}
 use Rattle.md_match.specs.Slots.{fit_of}
-use Rattle.md_match.specs.Searches.{Marks, no_marks, is_marked, goal_tree, unary_traps, binary_traps, occurs_by, occurs_in_move}
-use Rattle.md_match.specs.Does.{IsAlikeMove, Takes, all_taken, taken, IsMarked, IsHoleOfMarked, IsPartOfMarked, AllTraps, assigned, Does}
+use Rattle.md_match.specs.Searches.{Marks, no_marks, is_marked, goal_tree, occurs_by}
+use Rattle.md_match.specs.Does.{IsAlikeMove, Takes, all_taken, taken, IsMarked, IsPartOfMarked, AllTraps, assigned, Does}
 use Rattle.md_match.proofs.Binding.{or_true, fit_each, fit_length, fit_all}
 
 -- what is put for leaves

@@ -1,23 +1,20 @@
 -- How many numbers a tree has, and their sum: alike trees have the same, and filling keeps them.
-use Rattle.std.proofs.Common.{◌≡◌, ◌⊎◌, ℕ, zero, suc, ◌+◌, ◌<◌, ◌≤◌, Bool, true, false, ◌==◌, ◌&&◌, ◌||◌, not, List, [], ◌∷◌, map, length, slice_get, Option, Some, None, inl, inr, refl, sym, subst, ap, arith, ◌∙◌}
-use Rattle.std.proofs.lemmas.Option.{slice_get_within}
+use Rattle.std.proofs.Common.{◌≡◌, ℕ, zero, suc, ◌+◌, ◌<◌, ◌≤◌, Bool, true, false, ◌||◌, List, [], ◌∷◌, slice_get, Option, Some, None, inl, inr, refl, sym, subst, ap, arith, ◌∙◌}
 use Rattle.std.proofs.lemmas.Bool.{eqb-true}
 use Rattle.rtl_tree.specs.Trees.{Tree, Number, Symbol, CodeLabel, Read, Load, Unary, Binary, NoPair, AnyNumber, AnyName}
-use Rattle.rtl_tree.specs.Likeness.{commutes, IsAlike, equal, loads, unaries, straight, crossed}
+use Rattle.rtl_tree.specs.Likeness.{IsAlike, equal, loads, unaries, straight, crossed}
 use Rattle.rtl_tree.specs.Same.{same_tree}
 use Rattle.rtl_tree.proofs.Equality.{same_tree-is, and_both}
-use Rattle.rtl_tree.specs.declared.cells.Cell.{Cell}
 use Rattle.rtl_tree.specs.declared.cells.Cell.TheVariants.{Hard, Temp, Flag, Pc, Input, Output, Halt, Hole as RegisterHole}
 use Rattle.md_rows.specs.declared.row.Hole.{Hole}
 use Rattle.md_rows.specs.declared.row.Hole.TheVariants.{Reg as RegHole, Num as NumHole, Sym as SymHole, Label as LabelHole}
 use Rattle.md_rows.specs.declared.instance.Bound.{Bound}
 use Rattle.md_rows.specs.declared.instance.Bound.TheVariants.{Reg, Num, Sym, Label}
-use Rattle.md_rows.specs.Fits.{fits}
 use Rattle.md_rows.specs.Instances.{leaf_of, held_by, filled, AllFit}
 use Rattle.md_match.specs.Slots.{fit_of, fit_at}
 use Rattle.md_match.specs.Searches.{occurs_by}
-use Rattle.md_match.specs.Does.{has_hole, HasHolesBelow}
-use Rattle.md_match.proofs.Binding.{or_true, fit_each, fit_length}
+use Rattle.md_match.specs.Does.{has_hole}
+use Rattle.md_match.proofs.Binding.{or_true}
 use Rattle.md_covers.specs.Numbers.{is_open}
 use Rattle.md_covers.specs.Covers.{IsRowTree, is_register_hole, is_number_hole, is_name_hole}
 

@@ -1,27 +1,24 @@
 -- The search for a shape's example, with the tests of its numbers, decides whether a row covers the shape.
-use Rattle.std.proofs.Common.{◌≡◌, ◌⊎◌, ◌↔◌, ℕ, ◌<◌, ◌≤◌, Bool, true, false, ◌&&◌, List, length, take, get_or, slice_get, Option, Some, None, is_some, inl, inr, refl, sym, subst, ap, arith, ◌∙◌}
-use Rattle.std.specs.Prelude.{IsTrue, MatchOption}
+use Rattle.std.proofs.Common.{◌≡◌, ◌↔◌, ℕ, ◌≤◌, Bool, true, false, ◌&&◌, List, length, take, get_or, slice_get, Option, Some, None, is_some, refl, sym, subst, ◌∙◌}
 use Rattle.std.specs.List.{All}
 use Rattle.std.proofs.lemmas.Option.{slice_get_within, slice_get-get_or, get_or_from_slice_get}
 use Rattle.rtl_word.specs.Words.{IsWordSize}
 use Rattle.rtl_tree.specs.Moves.{Move}
-use Rattle.rtl_tree.proofs.Equality.{and_left, and_right, and_both}
+use Rattle.rtl_tree.proofs.Equality.{and_left, and_right}
 use Rattle.md_rows.specs.declared.row.Hole.{Hole}
-use Rattle.md_rows.specs.declared.instance.Bound.{Bound}
-use Rattle.md_match.specs.Slots.{Slots, fit_of, no_slots}
-use Rattle.md_match.specs.Searches.{Marks, no_marks, Search, is_idle, match_all}
-use Rattle.md_match.specs.Does.{Does, IsRow, IsDone, known}
+use Rattle.md_match.specs.Slots.{Slots, no_slots}
+use Rattle.md_match.specs.Searches.{no_marks, match_all}
+use Rattle.md_match.specs.Does.{IsRow, known}
 use Rattle.md_match.proofs.Exact.{exact}
 use Rattle.md_shapes.specs.declared.patterns.Pattern.{Pattern}
 use Rattle.md_shapes.specs.declared.search.Subject.{Subject}
-use Rattle.md_shapes.specs.Shapes.{Frame, Open, shape_moves, example, has_transfer, does_example}
-use Rattle.md_shapes.specs.Drawings.{search_of, IsSubject}
-use Rattle.md_covers.specs.Numbers.{Run, runs_of, has_runs, first_number, takes_runs, is_open_move}
-use Rattle.md_covers.specs.Covers.{IsRowMove, IsDoneBySome, IsOpenOf}
+use Rattle.md_shapes.specs.Shapes.{Frame, shape_moves, example, has_transfer, does_example}
+use Rattle.md_shapes.specs.Drawings.{search_of}
+use Rattle.md_covers.specs.Numbers.{runs_of, has_runs, first_number, takes_runs, is_open_move}
+use Rattle.md_covers.specs.Covers.{IsRowMove, IsDoneBySome}
 use Rattle.md_covers.specs.Subjects.{IsSeen, CoversWith}
 use Rattle.rtl_norm.specs.Transfers.{norm_moves}
 use Rattle.md_covers.proofs.Normal.{normal_row, is_row}
-use Rattle.md_covers.proofs.Ranged.{TakesAll}
 use Rattle.md_covers.proofs.Whole.{from_example, to_example, to_takes}
 
 done_by : (t : Subject) (es : List Move) (o : Option Slots) → IsSeen t → o ≡ match_all (search_of t) es no_marks no_slots → is_some o ≡ true

@@ -1,10 +1,10 @@
 -- The bits of the general registers are their sum, where the registers' numbers differ.
-use Rattle.std.proofs.Common.{◌≡◌, ◌≢◌, ℕ, zero, suc, ◌+◌, ◌^◌, ◌<◌, nat_lt, Bool, true, false, List, [], ◌∷◌, map, slice_get, Some, bit_and, bit_or, max, inl, inr, refl, sym, ap, subst, arith, ◌∙◌}
-use Rattle.std.specs.Prelude.{All, AllPairs, sum, if◌then◌else◌}
+use Rattle.std.proofs.Common.{◌≡◌, ◌≢◌, ℕ, suc, ◌+◌, ◌<◌, nat_lt, true, List, [], ◌∷◌, map, slice_get, Some, bit_and, bit_or, max, inl, inr, refl, sym, ap, subst, arith, ◌∙◌}
+use Rattle.std.specs.Prelude.{All, AllPairs, sum}
 use Rattle.std.specs.Int.{bit_at}
 use Rattle.std.specs.Int.Bits.{or_add_and}
 use Rattle.std.proofs.lemmas.Bool.Decides.{nat_tests}
-use Rattle.std.proofs.lemmas.Nat.Bits.{bit_at-zero, bit_at_or, bit_at_and, bit_at-pow_other, bit_at-pow_same, bit_at-lt, same_from_bits}
+use Rattle.std.proofs.lemmas.Nat.Bits.{bit_at-zero, bit_at_or, bit_at_and, bit_at-pow_other, same_from_bits}
 use Rattle.std.specs.List.{fold}
 use Rattle.rtl_tree.proofs.Pairs.{AllPairs-first, AllPairs-rest}
 use Rattle.md_rows.specs.declared.description.Register.{Register}

@@ -1,20 +1,20 @@
 -- Each shape is its example with other leaves, and the shapes with numbers are one assignment with one number.
-use Rattle.std.proofs.Common.{◌≡◌, ◌⊎◌, ℕ, zero, suc, ◌+◌, ◌-◌, ◌*◌, ◌/◌, ◌^◌, ◌<◌, Bool, true, false, nat_lt, List, [], ◌∷◌, map, Option, Some, None, inl, inr, refl, sym, subst, ap, arith, ◌∙◌}
+use Rattle.std.proofs.Common.{◌≡◌, ℕ, zero, suc, ◌<◌, Bool, true, false, nat_lt, map, Option, Some, None, inl, inr, refl, sym, subst, arith}
 use Rattle.std.proofs.lemmas.Bool.Decides.{nat_tests}
 use Rattle.rtl_word.specs.Words.{IsWordSize}
-use Rattle.rtl_tree.specs.Trees.{Tree, Number, Symbol, CodeLabel, Read, Load as LoadTree, Unary, Binary}
-use Rattle.rtl_tree.specs.Moves.{Goal, ToCell, ToMemory, Move}
+use Rattle.rtl_tree.specs.Trees.{Tree, Number, Read, Load as LoadTree}
+use Rattle.rtl_tree.specs.Moves.{ToCell, ToMemory}
 use Rattle.rtl_tree.specs.declared.cells.Cell.{Cell}
-use Rattle.rtl_tree.specs.declared.cells.Cell.TheVariants.{Hard, Temp, Flag}
+use Rattle.rtl_tree.specs.declared.cells.Cell.TheVariants.{Hard, Temp}
 use Rattle.rtl_tree.specs.declared.cells.Lab.{Lab}
 use Rattle.md_shapes.specs.declared.patterns.Pattern.{Pattern}
 use Rattle.md_shapes.specs.declared.patterns.Pattern.TheVariants.{Copy, SetNumber, SetSymbol, Load, Store, LoadByte, StoreByte, LoadHome, StoreHome, StoreTop, ReadStack, MoveStack, SetStack, Operate, Complement, Clear, Jump, Branch, Compare, BranchByFlag, Call, Return, SaveLink, RestoreLink, TakeInput, PutOutput, Halt, ReadResult, SetResult, ExtendByte}
 use Rattle.md_shapes.specs.Shapes.{Frame, Open, shape_moves, example, has_transfer, has_link, stack_plus, saved, restored, call_moves, return_moves}
-use Rattle.md_covers.specs.Numbers.{Run, IsOfSome, has_runs, runs_of, words, multiples, negatives, end_of}
-use Rattle.md_covers.proofs.Changes.{Change, changed_move, Each}
+use Rattle.md_covers.specs.Numbers.{has_runs, runs_of}
+use Rattle.md_covers.proofs.Changes.{Change, changed_move}
 use Rattle.md_covers.proofs.OneRegister.{AtMostOne}
-use Rattle.md_covers.proofs.Wide.{IsRun, AreRuns}
-use Rattle.md_covers.proofs.Ranged.{OneMove, is_flag_goal}
+use Rattle.md_covers.proofs.Wide.{AreRuns}
+use Rattle.md_covers.proofs.Ranged.{OneMove}
 
 abbrev pub put_cell : Cell → Cell → Cell → Cell
 put_cell a b (Temp zero) = a

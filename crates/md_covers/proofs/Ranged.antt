@@ -1,6 +1,6 @@
 -- A row that covers a shape with numbers has no number where one of the shape's could stand, and its number holes have all of them.
-use Rattle.std.proofs.Common.{◌≡◌, ◌⊎◌, ℕ, zero, suc, ◌+◌, ◌<◌, ◌≤◌, Bool, true, false, ◌&&◌, ◌||◌, not, List, [], ◌∷◌, length, set, slice_get, get_or, Option, Some, None, inl, inr, refl, sym, subst, ap, arith, ◌∙◌}
-use Rattle.std.proofs.lemmas.Option.{slice_get_within, get_or_from_slice_get}
+use Rattle.std.proofs.Common.{◌≡◌, ℕ, zero, suc, ◌+◌, ◌<◌, Bool, true, false, ◌&&◌, ◌||◌, not, List, [], ◌∷◌, length, set, slice_get, Option, Some, inl, inr, refl, sym, subst, ap, arith, ◌∙◌}
+use Rattle.std.proofs.lemmas.Option.{slice_get_within}
 use Rattle.rtl_tree.specs.Trees.{Tree, Number, Symbol, CodeLabel, Read, Load, Unary, Binary, NoPair, AnyNumber, AnyName}
 use Rattle.rtl_tree.specs.Moves.{Goal, ToCell, ToMemory, Move}
 use Rattle.rtl_tree.specs.Likeness.{IsAlike}
@@ -13,16 +13,15 @@ use Rattle.md_rows.specs.declared.row.Hole.{Hole}
 use Rattle.md_rows.specs.declared.row.Hole.TheVariants.{Reg as RegHole, Num as NumHole, Sym as SymHole, Label as LabelHole}
 use Rattle.md_rows.specs.declared.instance.Bound.{Bound}
 use Rattle.md_rows.specs.declared.instance.Bound.TheVariants.{Num}
-use Rattle.md_rows.specs.Fits.{fits}
-use Rattle.md_rows.specs.Instances.{filled, AllFit}
+use Rattle.md_rows.specs.Instances.{filled}
 use Rattle.md_match.specs.Slots.{fit_of, fit_at}
 use Rattle.md_match.specs.Searches.{Marks, no_marks, is_marked, goal_tree, unary_traps, binary_traps, traps_pass, occurs_by, is_flag_of, is_idle, names_none}
-use Rattle.md_match.specs.Does.{IsAlikeMove, Takes, all_taken, taken, has_hole, IsMarked, IsHoleOfMarked, IsPartOfMarked, AllTraps, Does}
+use Rattle.md_match.specs.Does.{IsAlikeMove, Takes, all_taken, taken, has_hole, IsPartOfMarked, AllTraps, Does}
 use Rattle.md_match.proofs.Binding.{or_true}
-use Rattle.md_covers.specs.Numbers.{Run, IsOf, IsOfSome, takes_run, takes_runs, is_open, is_open_move}
+use Rattle.md_covers.specs.Numbers.{Run, IsOfSome, takes_runs, is_open, is_open_move}
 use Rattle.md_covers.specs.Covers.{IsRowTree, IsRowMove, IsDoneBySome, is_number_hole}
 use Rattle.md_covers.proofs.Changes.{other_mark, same_or_not, no_mark, traps_two}
-use Rattle.md_covers.proofs.Wide.{IsRun, AreRuns, some_take, first_of, second_of}
+use Rattle.md_covers.proofs.Wide.{AreRuns, some_take, first_of, second_of}
 use Rattle.md_covers.proofs.Counts.{literals, gaps, numbers, total, alike_literals, alike_total, filled_literals, fixed_total, hole_total, number_at, none_open, IsLess, less_left, less_right, part_less}
 
 -- flags

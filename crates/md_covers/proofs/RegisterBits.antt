@@ -1,6 +1,5 @@
 -- The bits of the general registers, gathered from the first on.
-use Rattle.std.proofs.Common.{◌≡◌, ℕ, suc, ◌+◌, ◌<◌, ◌≤◌, List, ◌∷◌, drop, length, get_or, bit_or, refl, sym, ap, arith, ◌∙◌, drop-cons}
-use Rattle.std.specs.Int.{bit_at}
+use Rattle.std.proofs.Common.{◌≡◌, ℕ, suc, ◌+◌, ◌<◌, List, ◌∷◌, drop, length, get_or, bit_or, sym, ap, arith, ◌∙◌, drop-cons}
 use Rattle.std.proofs.lemmas.Nat.Bits.{bit_at-zero, bit_at_or, same_from_bits}
 use Rattle.rtl_word.proofs.Bitwise.{or_assoc}
 use Rattle.md_rows.specs.declared.description.Register.{Register}

@@ -1,12 +1,11 @@
 -- A number hole has a run exactly where it has its ends and no gap falls within.
-use Rattle.std.proofs.Common.{◌≡◌, ◌⊎◌, ℕ, zero, suc, ◌+◌, ◌-◌, ◌<◌, ◌≤◌, ◌*◌, ◌/◌, ◌%◌, ◌^◌, Bool, true, false, cond, ◌&&◌, ◌||◌, nat_lt, nat_le, ℤ, pos, inl, inr, refl, sym, subst, ap, arith, ◌∙◌, Option, Some, None, is_some}
+use Rattle.std.proofs.Common.{◌≡◌, ◌⊎◌, ℕ, zero, suc, ◌+◌, ◌-◌, ◌<◌, ◌≤◌, ◌*◌, ◌/◌, ◌^◌, Bool, true, false, cond, ◌&&◌, ◌||◌, nat_lt, nat_le, ℤ, pos, inl, inr, refl, sym, subst, ap, arith, ◌∙◌, Some, None, is_some}
 use Rattle.std.proofs.Math.IntN.{negsuc}
-use Rattle.std.proofs.Math.Nat.{mul-le-mul_left}
 use Rattle.std.proofs.lemmas.Bool.Decides.{nat_tests}
-use Rattle.md_rows.specs.Fits.{printed, within, below_zero, turned}
-use Rattle.std.specs.Prelude.{int_le, int_lt, ◌+ℤ◌}
+use Rattle.md_rows.specs.Fits.{printed}
+use Rattle.std.specs.Prelude.{int_le, ◌+ℤ◌}
 use Rattle.std.proofs.lemmas.Int.{ints}
-use Rattle.md_covers.specs.Ranges.{has, next_above, has_run, to_nat, run_test}
+use Rattle.md_covers.specs.Ranges.{has, next_above, has_run, run_test}
 
 ors : (t s : Bool) (a b : ℤ) → is_some (cond t (Some a) (cond s (Some b) None)) ≡ (t || s)
 ors true s a b = refl

@@ -1,12 +1,12 @@
 -- A row covers a shape exactly where it does the shape's example and takes all of the shape's numbers.
-use Rattle.std.proofs.Common.{◌≡◌, ◌⊎◌, ◌↔◌, ℕ, zero, suc, ◌<◌, ◌≤◌, Bool, true, false, ◌&&◌, ◌==◌, nat_lt, List, [], ◌∷◌, map, slice_get, Option, Some, None, inl, inr, refl, sym, subst, ap, arith, ◌∙◌, bit_and}
+use Rattle.std.proofs.Common.{◌≡◌, ℕ, zero, suc, Bool, true, false, nat_lt, List, [], ◌∷◌, map, slice_get, Option, Some, None, inl, refl, sym, subst, ap, arith, ◌∙◌, bit_and}
 use Rattle.std.specs.Int.{bit_at}
 use Rattle.std.proofs.lemmas.Bool.{eqb-true, eq-eqb}
 use Rattle.std.proofs.lemmas.Bool.Decides.{nat_tests}
 use Rattle.std.proofs.lemmas.Nat.Bits.{bit_at_and, bit_at-lt}
 use Rattle.rtl_word.specs.Words.{IsWordSize}
 use Rattle.rtl_tree.specs.Trees.{Tree, Number, Symbol, CodeLabel, Read, Load, Unary, Binary, NoPair, AnyNumber, AnyName}
-use Rattle.rtl_tree.specs.Moves.{Goal, ToCell, ToMemory, Move}
+use Rattle.rtl_tree.specs.Moves.{Move}
 use Rattle.rtl_tree.specs.declared.cells.Cell.{Cell}
 use Rattle.rtl_tree.specs.declared.cells.Cell.TheVariants.{Hard, Temp, Flag, Pc, Input, Output, Halt, Hole as RegisterHole}
 use Rattle.rtl_tree.proofs.Equality.{and_left, and_right, and_both}
@@ -15,18 +15,18 @@ use Rattle.md_rows.specs.declared.row.Hole.TheVariants.{Reg as RegHole, Num as N
 use Rattle.md_rows.specs.declared.instance.Bound.{Bound}
 use Rattle.md_rows.specs.declared.instance.Bound.TheVariants.{Reg, Num, Sym, Label}
 use Rattle.md_rows.specs.Fits.{fits, is_in}
-use Rattle.md_match.specs.Slots.{fit_of, fit_at}
-use Rattle.md_match.specs.Searches.{Marks, no_marks, goal_tree, traps_pass, is_flag_of, is_idle, names_none}
-use Rattle.md_match.specs.Does.{IsAlikeMove, IsMarked, AllTraps, Does}
+use Rattle.md_match.specs.Slots.{fit_at}
+use Rattle.md_match.specs.Searches.{Marks, no_marks, goal_tree, is_flag_of, is_idle, names_none}
+use Rattle.md_match.specs.Does.{IsAlikeMove, Does}
 use Rattle.md_shapes.specs.declared.patterns.Pattern.{Pattern}
 use Rattle.md_shapes.specs.Shapes.{Frame, Open, shape_moves, example, has_transfer}
-use Rattle.md_covers.specs.Numbers.{Run, IsOf, IsOfSome, IsNumberOf, has_runs, runs_of, first_number, takes_runs, is_open, is_open_move}
+use Rattle.md_covers.specs.Numbers.{Run, IsOfSome, IsNumberOf, has_runs, runs_of, first_number, is_open}
 use Rattle.md_covers.specs.Covers.{IsRowTree, IsRowMove, IsDoneBySome, IsGeneral, IsOpenOf}
-use Rattle.md_covers.proofs.Changes.{Change, changed_bound, changed_move, IsFixed, IsFixedMove, Each, FixesTaken, Carries, takes_changed, traps_two, does_changed}
-use Rattle.md_covers.proofs.Wide.{IsRun, AreRuns, takes_some, first_of}
-use Rattle.md_covers.proofs.Ranged.{OneMove, DoneAt, TakesAll, is_flag_goal, flag_goal, flags_apart, flag_open, other_open, traps_open, row_traps, covers_takes}
+use Rattle.md_covers.proofs.Changes.{changed_bound, changed_move, IsFixed, IsFixedMove, Each, Carries, takes_changed, traps_two, does_changed}
+use Rattle.md_covers.proofs.Wide.{AreRuns, takes_some, first_of}
+use Rattle.md_covers.proofs.Ranged.{OneMove, TakesAll, is_flag_goal, flag_goal, flags_apart, flag_open, other_open, traps_open, row_traps, covers_takes}
 use Rattle.md_covers.proofs.OneRegister.{AtMostOne, one_register}
-use Rattle.md_covers.proofs.Patterns.{at_most_one, put_cell, put_number, to_open, moved, one_move, are_runs}
+use Rattle.md_covers.proofs.Patterns.{at_most_one, put_number, to_open, moved, one_move, are_runs}
 
 -- leaves of the row that stay
 

@@ -1,11 +1,10 @@
 -- A number hole has a whole run of words exactly where the test of its range says so.
-use Rattle.std.proofs.Common.{◌≡◌, ◌⊎◌, ℕ, zero, suc, ◌+◌, ◌-◌, ◌<◌, ◌≤◌, ◌*◌, ◌/◌, ◌^◌, Bool, true, false, cond, ◌&&◌, nat_lt, List, [], ◌∷◌, Option, Some, None, is_some, ℤ, inl, inr, refl, sym, subst, ap, arith, ◌∙◌}
+use Rattle.std.proofs.Common.{◌≡◌, ℕ, ◌+◌, ◌-◌, ◌<◌, ◌≤◌, ◌*◌, ◌^◌, Bool, true, false, nat_lt, List, [], ◌∷◌, is_some, ℤ, inl, inr, refl, sym, subst, ap, arith, ◌∙◌}
 use Rattle.std.proofs.lemmas.Bool.Decides.{nat_tests}
 use Rattle.rtl_tree.proofs.Equality.{and_left, and_right, and_both}
 use Rattle.md_rows.specs.declared.row.Hole.{Hole}
 use Rattle.md_rows.specs.declared.row.Hole.TheVariants.{Reg as RegHole, Num as NumHole, Sym as SymHole, Label as LabelHole}
-use Rattle.md_rows.specs.declared.instance.Bound.{Bound}
-use Rattle.md_rows.specs.declared.instance.Bound.TheVariants.{Reg, Num, Sym, Label}
+use Rattle.md_rows.specs.declared.instance.Bound.TheVariants.{Num}
 use Rattle.md_rows.specs.Fits.{fits, printed}
 use Rattle.md_covers.specs.Ranges.{has, has_run, run_test}
 use Rattle.md_covers.specs.Numbers.{Run, IsOf, IsOfSome, end_of, takes_run, takes_runs}

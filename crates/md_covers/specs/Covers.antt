@@ -1,6 +1,5 @@
 -- When a row covers a shape.
 use Rattle.std.specs.Prelude.{◌≡◌, ℕ, ◌<◌, ◌≤◌, ◌^◌, Bool, true, false, nat_lt, bit_or, if◌then◌else◌, List, [], ◌∷◌, length, slice_get, All, Option, Some, None}
-use Rattle.rtl_word.specs.Words.{IsWordSize}
 use Rattle.rtl_tree.specs.Trees.{Tree, Symbol, CodeLabel, Read, Load, Unary, Binary, AnyNumber, AnyName}
 use Rattle.rtl_tree.specs.Moves.{Move}
 use Rattle.rtl_tree.specs.declared.cells.Cell.{Cell}

@@ -1,5 +1,5 @@
 -- The longest line of a row.
-use Rattle.std.specs.Prelude.{ℕ, zero, suc, ◌+◌, max, Bool, true, false, cond, ◌&&◌, List, [], ◌∷◌, length, slice_get, Option, Some, None}
+use Rattle.std.specs.Prelude.{ℕ, ◌+◌, max, Bool, true, false, cond, ◌&&◌, List, [], ◌∷◌, length, slice_get, Option, Some, None}
 use Rattle.std.specs.Fmt.{signed_decimal}
 use Rattle.md_rows.specs.declared.description.Register.{Register}
 use Rattle.md_rows.specs.declared.row.Hole.{Hole}

@@ -1,7 +1,7 @@
 -- The numbers of the shapes, and whether a row takes them all.
-use Rattle.std.specs.Prelude.{◌≡◌, ◌⊎◌, ℕ, zero, suc, ◌<◌, ◌+◌, ◌-◌, ◌*◌, ◌/◌, ◌^◌, Bool, true, false, not, cond, ◌&&◌, List, [], ◌∷◌, Option, Some, None}
-use Rattle.rtl_tree.specs.Trees.{Tree, Number, Read, Load as LoadTree, Unary, Binary}
-use Rattle.rtl_tree.specs.Moves.{Goal, ToCell, Move}
+use Rattle.std.specs.Prelude.{◌≡◌, ◌⊎◌, ℕ, ◌<◌, ◌+◌, ◌-◌, ◌*◌, ◌/◌, ◌^◌, Bool, true, false, cond, ◌&&◌, List, [], ◌∷◌}
+use Rattle.rtl_tree.specs.Trees.{Tree, Number, Load as LoadTree, Unary, Binary}
+use Rattle.rtl_tree.specs.Moves.{Goal, ToCell}
 use Rattle.rtl_tree.specs.declared.cells.Cell.TheVariants.{Flag}
 use Rattle.md_rows.specs.declared.row.Hole.{Hole}
 use Rattle.md_rows.specs.declared.row.Hole.TheVariants.{Num as NumHole}

@@ -1,7 +1,6 @@
 use Rattle.std.proofs.Common.{◌≡◌, ◌∙◌, sym, subst, true, false, ℕ, refl}
 use Rattle.md_shapes.specs.Drawings.{frame_of, search_of}
 use Rattle.md_shapes.specs.Shapes.{does_example}
-use Rattle.md_covers.specs.Numbers.{first_number, runs_of}
 use Rattle.md_covers.proofs.Decide.{not_covered, plain_covered, ranged_covered}
 use Rattle.md_covers.proofs.covering.covers_pattern.Goals as goal
 

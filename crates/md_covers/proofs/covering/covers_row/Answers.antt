@@ -1,4 +1,4 @@
-use Rattle.std.proofs.Common.{rules, refl, sym, subst, length, ◌≤◌, ℕ, ap, ◌∙◌}
+use Rattle.std.proofs.Common.{subst, length, ◌≤◌}
 use Rattle.md_covers.proofs.Decide.{seen}
 use Rattle.md_covers.proofs.covering.covers_row.Goals as goal
 

@@ -1,6 +1,6 @@
-use Rattle.std.proofs.Common.{◌≡◌, ◌∙◌, sym, subst, ap, bit_or, [], drop, ◌+◌, ℕ, get_or, refl}
+use Rattle.std.proofs.Common.{◌≡◌, ◌∙◌, sym, subst, ap, bit_or, [], drop, ◌+◌, ℕ}
 use Rattle.std.proofs.Math.ListN.{drop_of_length-le}
-use Rattle.md_covers.specs.Covers.{general_bits, general_bit}
+use Rattle.md_covers.specs.Covers.{general_bits}
 use Rattle.md_covers.proofs.RegisterBits.{bits_next, or_nothing}
 use Rattle.md_covers.proofs.registers.general_bits.Goals as goal
 

@@ -1,0 +1,12 @@
+pub mod Changes
+pub mod Runs
+pub mod Wide
+pub mod Counts
+pub mod Ranged
+pub mod Patterns
+pub mod Whole
+pub mod Normal
+pub mod RegisterBits
+pub mod Decide
+pub mod OneRegister
+pub mod GeneralSet

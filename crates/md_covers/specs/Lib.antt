@@ -1,0 +1,5 @@
+pub mod Lines
+pub mod Ranges
+pub mod Numbers
+pub mod Covers
+pub mod Subjects

@@ -1,0 +1,15 @@
+pub mod Leaves
+pub mod Size
+pub mod Pick
+pub mod Filling
+pub mod Ways
+pub mod Sound
+pub mod Whole
+pub mod Choices
+pub mod Binding
+pub mod Accepted
+pub mod Done
+pub mod Undone
+pub mod Exact
+pub mod Apart
+pub mod Barred

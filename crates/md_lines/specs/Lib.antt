@@ -1,0 +1,5 @@
+pub mod Parts
+pub mod Kept
+pub mod Fields
+pub mod Seen
+pub mod Fronts

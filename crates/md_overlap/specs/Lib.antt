@@ -1,0 +1,4 @@
+pub mod Overlap
+pub mod Premises
+pub mod Tests
+pub mod Least

@@ -1,0 +1,9 @@
+use Rattle.std.proofs.Common.{sym, ◌∙◌}
+use Rattle.md_text.specs.Rules.{is_unknown_kind}
+use Rattle.md_forms.specs.Seen.{declarations_of}
+use Rattle.md_rules.proofs.TextSlots.{any_slot}
+use Rattle.md_rules.proofs.slots.has_unknown_kind.Goals as goal
+
+pub returns : goal.returns
+returns c =
+    c.any_slot_for_unknown.ensures ∙ sym (any_slot (λ h. is_unknown_kind (declarations_of c.args.known.now.before.now) h.kind) c.args.text.now)

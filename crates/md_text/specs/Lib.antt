@@ -1,0 +1,9 @@
+pub mod Lines
+pub mod Pieces
+pub mod Forms
+pub mod Declarations
+pub mod Expansion
+pub mod Heading
+pub mod Rules
+pub mod Accepted
+pub mod Laws

@@ -21,7 +21,7 @@ use Rattle.md_shapes.specs.declared.patterns.Pattern.{Pattern}
 use Rattle.md_shapes.specs.Patterns.{pattern_of}
 use Rattle.md_shapes.specs.Shapes.{Frame, Open, shape_moves, has_transfer}
 use Rattle.md_covers.specs.Numbers.{runs_of, IsNumberOf}
-use Rattle.md_covers.specs.Lines.{longest_line}
+use Rattle.md_rows.specs.Lines.{longest_line}
 
 -- the registers of a description
 

@@ -1,7 +1,7 @@
 //! Whether a row's longest line is short enough.
 
 ghost use Rattle.std.specs.Prelude.{◌≡◌, ◌&&◌, drop, nat_le, false};
-ghost use Rattle.md_covers.specs.Lines.{bytes_after, is_word as is_word_piece, longest_line, longest_name as longest_in, piece_bytes as piece_length, space_bytes};
+ghost use Rattle.md_rows.specs.Lines.{bytes_after, is_word as is_word_piece, longest_line, longest_name as longest_in, piece_bytes as piece_length, space_bytes};
 ghost use Rattle.std.specs.Fmt.{signed_decimal};
 ghost use Rattle.std.specs.Prelude.{length};
 

@@ -1,23 +1,25 @@
 -- Instances: what an instruction of a description is, its tokens and the transfer that it makes.
-use Rattle.std.specs.Prelude.{◌≡◌, ◌≢◌, ℕ, ◌^◌, IsTrue, List, [], ◌∷◌, map, slice_get, Option, Some, None, option_map, AllPairs, filter_map, sum}
+use Rattle.std.specs.Prelude.{◌≡◌, ◌≢◌, ◌≤◌, ℕ, ◌^◌, ◌==◌, if◌then◌else◌, IsTrue, List, [], ◌∷◌, map, slice_get, Option, Some, None, option_map, AllPairs, filter_map, sum, decimal}
 use Rattle.asm_token.specs.Tokens.{Token, Name as NameToken, Number as NumberToken, Mark as MarkToken}
 use Rattle.rtl_tree.specs.Trees.{Tree, Number, Symbol, CodeLabel, Read, Load, Unary, Binary, AnyNumber, AnyName}
 use Rattle.rtl_tree.specs.Moves.{Goal, ToCell, ToMemory, Move}
 use Rattle.rtl_tree.specs.declared.cells.Cell.{Cell}
 use Rattle.rtl_tree.specs.declared.cells.Cell.TheVariants.{Hard, Temp, Hole as RegisterHole}
+use Rattle.rtl_tree.specs.declared.cells.Lab.TheVariants.{Block, Function}
 use Rattle.md_rows.specs.declared.description.Register.{Register}
 use Rattle.md_rows.specs.declared.description.Role.{Role}
 use Rattle.md_rows.specs.declared.description.Role.TheVariants.{General}
 use Rattle.md_rows.specs.declared.description.RawDescription.{RawDescription}
 use Rattle.md_rows.specs.declared.row.Row.{Row}
 use Rattle.md_rows.specs.declared.row.Hole.{Hole}
-use Rattle.md_rows.specs.declared.row.Hole.TheVariants.{Num as NumHole}
+use Rattle.md_rows.specs.declared.row.Hole.TheVariants.{Reg as RegHole, Num as NumHole, Sym as SymHole, Label as LabelHole}
 use Rattle.md_rows.specs.declared.row.Piece.{Piece}
 use Rattle.md_rows.specs.declared.row.Piece.TheVariants.{Name, Num, Byte, Hole as HolePiece}
 use Rattle.md_rows.specs.declared.instance.Bound.{Bound}
 use Rattle.md_rows.specs.declared.instance.Bound.TheVariants.{Reg, Num as NumBound, Sym, Label}
 use Rattle.md_rows.specs.declared.instance.Instance.{Instance}
 use Rattle.md_rows.specs.Fits.{fits, printed}
+use Rattle.md_rows.specs.Lines.{longest_line}
 
 -- the leaf that a bound value stands for
 abbrev pub leaf_of : Bound → Tree
@@ -60,21 +62,47 @@ filled_move b m = record { to = filled_goal b m.to; value = filled b m.value }
 abbrev pub effects_with : Row → List Bound → List Move
 effects_with row b = map (filled_move b) row.effects
 
--- the token that a hole prints; holes for registers, symbols and labels print none yet
-abbrev pub hole_token : ℕ → Option Hole → Option Bound → Option Token
-hole_token w (Some (NumHole low high inverted)) (Some (NumBound v)) = option_map NumberToken (printed w low high inverted v)
-hole_token w _ _ = None
+-- what has a name on a line: the registers, and a program's objects and functions
+pub record Naming : Type 0 where
+  pub registers : List Register
+  pub objects : List (List ℕ)
+  pub functions : List (List ℕ)
+
+abbrev pub no_names : Naming
+no_names = record { registers = []; objects = []; functions = [] }
+
+-- the name of the first register of this number
+abbrev pub register_name : List Register → ℕ → Option (List ℕ)
+register_name [] k = None
+register_name (r ∷ rs) k = if r.number == k then Some r.name else register_name rs k
+
+-- a C name is written behind an underscore
+abbrev pub symbol_token : List ℕ → Token
+symbol_token name = NameToken (95 ∷ name)
+
+-- the label of a block is `L` and its number
+abbrev pub block_token : ℕ → Token
+block_token n = NameToken (76 ∷ decimal n)
+
+-- the token that a hole prints; none where its value has no name, as a temporary has none
+abbrev pub hole_token : ℕ → Naming → Option Hole → Option Bound → Option Token
+hole_token w names (Some (RegHole class)) (Some (Reg (Hard k))) = option_map NameToken (register_name names.registers k)
+hole_token w names (Some (NumHole low high inverted)) (Some (NumBound v)) = option_map NumberToken (printed w low high inverted v)
+hole_token w names (Some SymHole) (Some (Sym n)) = option_map symbol_token (slice_get names.objects n)
+hole_token w names (Some LabelHole) (Some (Label (Block n))) = Some (block_token n)
+hole_token w names (Some LabelHole) (Some (Label (Function n))) = option_map symbol_token (slice_get names.functions n)
+hole_token w names _ _ = None
 
 -- the token of a piece of a row's text
-abbrev pub piece_token : ℕ → List Hole → List Bound → Piece → Option Token
-piece_token w holes b (Name bytes) = Some (NameToken bytes)
-piece_token w holes b (Num z) = Some (NumberToken z)
-piece_token w holes b (Byte c) = Some (MarkToken c)
-piece_token w holes b (HolePiece h) = hole_token w (slice_get holes h) (slice_get b h)
+abbrev pub piece_token : ℕ → Naming → List Hole → List Bound → Piece → Option Token
+piece_token w names holes b (Name bytes) = Some (NameToken bytes)
+piece_token w names holes b (Num z) = Some (NumberToken z)
+piece_token w names holes b (Byte c) = Some (MarkToken c)
+piece_token w names holes b (HolePiece h) = hole_token w names (slice_get holes h) (slice_get b h)
 
 -- the tokens of a row's line with these values in its holes
-abbrev pub tokens_with : ℕ → Row → List Bound → List Token
-tokens_with w row b = filter_map (piece_token w row.holes b) row.text
+abbrev pub tokens_with : ℕ → Naming → Row → List Bound → List Token
+tokens_with w names row b = filter_map (piece_token w names row.holes b) row.text
 
 -- the bits of the general registers
 abbrev pub role_bit : Role → ℕ → ℕ
@@ -96,9 +124,10 @@ assigned_register (ToCell (Hard k)) = Some (Hard k)
 assigned_register (ToCell (Temp n)) = Some (Temp n)
 assigned_register _ = None
 
--- a row with a binding is an instruction: each value fits its hole, and no two assigned registers become one; so far no row's longest
--- line passes 640 bytes
+-- a row with a binding is an instruction: no line of the row is longer than 640 bytes, each value fits its hole, and no two assigned
+-- registers become one
 pub record IsInstance (d : RawDescription) (i : Instance) (row : Row) : Type 0 where
   pub has_row : slice_get d.rows i.row ≡ Some row
+  pub short : longest_line d.registers row.holes row.text ≤ 640
   pub fit : AllFit d.word (general_set d.registers) row.holes i.binding
   pub different : AllPairs (λ c d. c ≢ d) (filter_map (λ m. assigned_register m.to) (effects_with row i.binding))

@@ -392,6 +392,10 @@ module _ (c : Context) (k : IsContext c) where
   }
   tree_sound (suc f) d = record { spelt = tree_spelt f d (tree_sound f (suc d)); flag = tree_flag f }
 
+  -- a tree that is read is spelled by what stands before the rest
+  pub tree_is_spelt : (f d : ℕ) (ts : Tokens) → Gives (Spelt d ts) (tree c f ts)
+  tree_is_spelt f d ts = (tree_sound f d).spelt ts
+
   -- ---- assignments
 
   record Placing (ts : Tokens) (g : Option Goal) (us : Tokens) : Type 0 where

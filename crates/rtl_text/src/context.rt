@@ -5,7 +5,7 @@ use rtl_tree::Names;
 
 /// The bits of a word, the names, and the holes that may be filled.
 #[derive(Clone, Copy, Debug)]
-pub(crate) struct Context<'a> {
+pub struct Context<'a> {
     pub bits: u32,
     pub names: &'a Names,
     pub holes: &'a [OpenHole],

@@ -34,8 +34,8 @@ fn gathered(made: Gathered, a: Assignment) -> Result<Gathered, NoMemory>
     }
 }
 
-// An assignment with the end of the text, or with what stands between two; and whether it was the last.
-fn item<'t, 'a>(
+/// An assignment with the end of the text, or with what stands between two; and whether it was the last.
+pub fn item<'t, 'a>(
     alloc: Global,
     c: &Context<'_>,
     tokens: &'t [Token<'a>],

@@ -11,7 +11,7 @@ use rtl_spelling::Sign;
 use std::alloc::Global;
 
 /// The tokens of a whole text, of which the last is the end.
-pub(crate) fn lex(alloc: Global, text: &[u8]) -> Result<Vec<Token<'_>>, TextFault>
+pub fn lex(alloc: Global, text: &[u8]) -> Result<Vec<Token<'_>>, TextFault>
     ensures lexes { IfOk result (λ tokens. Lexes text.now (tokens_of tokens.items)) }
     ensures stuck { IfErr result (RefusesTokens text.now) }
 {

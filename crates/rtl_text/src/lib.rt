@@ -33,9 +33,16 @@ mod trouble;
 mod words;
 
 pub use calls::{read_holed, read_transfer};
+pub use context::Context;
 pub use fault::TextFault;
+pub use gathering::item;
+pub use lexing::lex;
 pub use printing::print_transfer;
-pub use rtl_spelling::OpenHole;
+pub use rtl_spelling::{OpenHole, Sign};
+pub use said::Assignment;
+pub use token::Token;
+pub use trees::tree;
+pub use trouble::Trouble;
 
 #[cfg(test)]
 mod tests;

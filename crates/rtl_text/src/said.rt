@@ -4,7 +4,7 @@ use rtl_tree::{Expr, Place};
 
 /// What the text of an assignment says. It has no place where a hole's leaf stands as one and can't be one.
 #[derive(Debug, Drop)]
-pub(crate) struct Assignment {
+pub struct Assignment {
     pub to: Option<Place>,
     pub value: Expr,
 }

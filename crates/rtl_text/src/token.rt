@@ -12,7 +12,7 @@ use rtl_spelling::Sign;
 
 /// A token of a text, words and numbers by their bytes.
 #[derive(Clone, Copy, Debug, PartialEq, Eq)]
-pub(crate) enum Token<'a> {
+pub enum Token<'a> {
     Word(&'a [u8]),
     Number(&'a [u8]),
     Mark(Sign),

@@ -305,7 +305,7 @@ fn tree_on<'t, 'a>(
 
 /// A tree that may have `room` trees one in the other.
 #[cycle(reading)]
-pub(crate) fn tree<'t, 'a>(
+pub fn tree<'t, 'a>(
     alloc: Global,
     c: &Context<'_>,
     room: u32,

@@ -5,7 +5,7 @@ use std::alloc::AllocFailed;
 
 /// Why nothing was read; with each fault goes how many tokens are left from there on.
 #[derive(Clone, Copy, Debug, PartialEq, Eq)]
-pub(crate) enum Trouble {
+pub enum Trouble {
     NoMemory,
     Wrong(usize),
     Deep(usize),

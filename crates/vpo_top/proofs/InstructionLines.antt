@@ -11,7 +11,7 @@ use Rattle.asm_token.proofs.Lines.{line_reads_back}
 use Rattle.md_rows.specs.declared.instance.Bound.TheVariants.{Num}
 use Rattle.md_rows.specs.declared.instance.Instance.{Instance}
 use Rattle.md_rows.specs.declared.row.Row.{Row}
-use Rattle.md_rows.specs.Instances.{IsInstance, AllFit, general_set, tokens_with}
+use Rattle.md_rows.specs.Instances.{no_names, IsInstance, AllFit, general_set, tokens_with}
 use Rattle.vpo_top.specs.FirstDescription.{FirstForm, HaveNames, BeginsWith, word_hole, description_of}
 use Rattle.vpo_top.specs.Assembly.{HasTokensOf}
 use Rattle.vpo_top.specs.Compiled.{set_to, put, finish, instruction_line}
@@ -41,7 +41,7 @@ same_instance j i e h =
 line_reads : (f : FirstForm) (line : List ℕ) (ts : List Token) (j : Instance) → Spells is_blank_or_tab line ts → HasTokensOf (description_of f) line j → Reads f j.row j.binding ts
 line_reads f line ts j spells h =
     let known = row_reads f (general_set (description_of f).registers) j.row j.binding h.row h.instance.has_row h.instance.fit in
-    subst (λ us. Reads f j.row j.binding us) (spelled_once is_blank_or_tab line (tokens_with f.word h.row j.binding) ts blank_or_tab_is_gap h.spells spells) known
+    subst (λ us. Reads f j.row j.binding us) (spelled_once is_blank_or_tab line (tokens_with f.word no_names h.row j.binding) ts blank_or_tab_is_gap h.spells spells) known
 
 tab_line : (ts : List Token) → All IsToken ts → Spells is_blank_or_tab (9 ∷ line_of ts) ts
 tab_line ts h = after_gap 9 (line_of ts) ts refl (line_reads_back is_blank_or_tab ts refl h)
@@ -53,11 +53,11 @@ short_line : (ts : List Token) → spaced_length ts ≤ 516 → IsWithinLimit (9
 short_line ts h = omega (arith, line_length ts)
 
 -- an instruction with these tokens has a line of its own, if no other has them
-module _ (f : FirstForm) (i : Instance) (row : Row) (ts : List Token) (is : IsInstance (description_of f) i row) (tokens : tokens_with f.word row i.binding ≡ ts) (all : All IsToken ts) (short : spaced_length ts ≤ 516) where
+module _ (f : FirstForm) (i : Instance) (row : Row) (ts : List Token) (is : IsInstance (description_of f) i row) (tokens : tokens_with f.word no_names row i.binding ≡ ts) (all : All IsToken ts) (short : spaced_length ts ≤ 516) where
   has_tokens : HasTokensOf (description_of f) (9 ∷ line_of ts) i
   has_tokens = record { row = row; instance = is; spells = subst (λ us. Spells is_blank_or_tab (9 ∷ line_of ts) us) (sym tokens) (tab_line ts all) }
 
-  line_is : ((j : Instance) → Reads f j.row j.binding ts → j ≡ i) → instruction_line (description_of f) i ≡ 9 ∷ (line_of (tokens_with f.word row i.binding) ++ 10 ∷ []) → HasLine (description_of f) i
+  line_is : ((j : Instance) → Reads f j.row j.binding ts → j ≡ i) → instruction_line (description_of f) i ≡ 9 ∷ (line_of (tokens_with f.word no_names row i.binding) ++ 10 ∷ []) → HasLine (description_of f) i
   line_is only bytes = record {
     line = 9 ∷ line_of ts;
     bytes = bytes ∙ ap (λ us. 9 ∷ (line_of us ++ 10 ∷ [])) tokens;

@@ -15,7 +15,7 @@ use Rattle.md_rows.specs.declared.row.Piece.TheVariants.{Hole as HolePiece}
 use Rattle.md_rows.specs.declared.instance.Bound.{Bound}
 use Rattle.md_rows.specs.declared.instance.Bound.TheVariants.{Reg, Num, Sym, Label}
 use Rattle.md_rows.specs.Fits.{printed}
-use Rattle.md_rows.specs.Instances.{hole_token, piece_token, tokens_with, AllFit}
+use Rattle.md_rows.specs.Instances.{no_names, hole_token, piece_token, tokens_with, AllFit}
 use Rattle.vpo_top.specs.FirstDescription.{FirstForm, BeginsWith, piece_of, word_hole, row_of}
 use Rattle.vpo_top.proofs.HoleNumbers.{some_of, printed_tells}
 
@@ -37,28 +37,28 @@ printed_word w v = printed w (negsuc (2 ^ (w - 1) - 1)) (pos (2 ^ (w - 1) - 1)) 
 abbrev pub set_tokens : FirstForm → ℤ → List Token
 set_tokens f z = f.before_hole ++ Number z ∷ f.after_hole
 
-pub literal_tokens : (w : ℕ) (holes : List Hole) (b : List Bound) (ts : List Token) → filter_map (piece_token w holes b) (map piece_of ts) ≡ ts
+pub literal_tokens : (w : ℕ) (holes : List Hole) (b : List Bound) (ts : List Token) → filter_map (piece_token w no_names holes b) (map piece_of ts) ≡ ts
 literal_tokens w holes b [] = refl
 literal_tokens w holes b (Name x ∷ ts) = ap (λ us. Name x ∷ us) (literal_tokens w holes b ts)
 literal_tokens w holes b (Number z ∷ ts) = ap (λ us. Number z ∷ us) (literal_tokens w holes b ts)
 literal_tokens w holes b (Mark c ∷ ts) = ap (λ us. Mark c ∷ us) (literal_tokens w holes b ts)
 
 tokens_round_hole : (w : ℕ) (holes : List Hole) (b : List Bound) (ts us : List Token)
-    → filter_map (piece_token w holes b) (map piece_of ts ++ HolePiece 0 ∷ map piece_of us) ≡ ts ++ cons_option (hole_token w (slice_get holes 0) (slice_get b 0)) us
-tokens_round_hole w holes b [] us = ap (cons_option (hole_token w (slice_get holes 0) (slice_get b 0))) (literal_tokens w holes b us)
+    → filter_map (piece_token w no_names holes b) (map piece_of ts ++ HolePiece 0 ∷ map piece_of us) ≡ ts ++ cons_option (hole_token w no_names (slice_get holes 0) (slice_get b 0)) us
+tokens_round_hole w holes b [] us = ap (cons_option (hole_token w no_names (slice_get holes 0) (slice_get b 0))) (literal_tokens w holes b us)
 tokens_round_hole w holes b (Name x ∷ ts) us = ap (λ vs. Name x ∷ vs) (tokens_round_hole w holes b ts us)
 tokens_round_hole w holes b (Number z ∷ ts) us = ap (λ vs. Number z ∷ vs) (tokens_round_hole w holes b ts us)
 tokens_round_hole w holes b (Mark c ∷ ts) us = ap (λ vs. Mark c ∷ vs) (tokens_round_hole w holes b ts us)
 
-pub set_row_tokens : (f : FirstForm) (v : ℕ) (z : ℤ) → printed_word f.word v ≡ Some z → tokens_with f.word (set_row f) (Num v ∷ []) ≡ set_tokens f z
+pub set_row_tokens : (f : FirstForm) (v : ℕ) (z : ℤ) → printed_word f.word v ≡ Some z → tokens_with f.word no_names (set_row f) (Num v ∷ []) ≡ set_tokens f z
 set_row_tokens f v z e =
     tokens_round_hole f.word (word_hole f.word ∷ []) (Num v ∷ []) f.before_hole f.after_hole
     ∙ ap (λ o. f.before_hole ++ cons_option (option_map Number o) f.after_hole) e
 
-pub put_row_tokens : (f : FirstForm) → tokens_with f.word (put_row f) [] ≡ f.put
+pub put_row_tokens : (f : FirstForm) → tokens_with f.word no_names (put_row f) [] ≡ f.put
 put_row_tokens f = literal_tokens f.word [] [] f.put
 
-pub end_row_tokens : (f : FirstForm) → tokens_with f.word (end_row f) [] ≡ f.«end»
+pub end_row_tokens : (f : FirstForm) → tokens_with f.word no_names (end_row f) [] ≡ f.«end»
 end_row_tokens f = literal_tokens f.word [] [] f.«end»
 
 -- what a text spells are tokens
@@ -73,7 +73,7 @@ pub data Reads (f : FirstForm) (row : ℕ) (b : List Bound) (ts : List Token) : 
   puts : row ≡ 1 → b ≡ [] → ts ≡ f.put → Reads f row b ts
   ends : row ≡ 2 → b ≡ [] → ts ≡ f.«end» → Reads f row b ts
 
-set_reads : (f : FirstForm) (g : ℕ) (b : List Bound) → AllFit f.word g (word_hole f.word ∷ []) b → Reads f 0 b (tokens_with f.word (set_row f) b)
+set_reads : (f : FirstForm) (g : ℕ) (b : List Bound) → AllFit f.word g (word_hole f.word ∷ []) b → Reads f 0 b (tokens_with f.word no_names (set_row f) b)
 set_reads f g [] h = absurd h
 set_reads f g (Num v ∷ []) (h, _) =
     let tests = and_parts (nat_lt v (2 ^ f.word)) (is_some (printed_word f.word v)) h in
@@ -84,21 +84,21 @@ set_reads f g (Reg c ∷ xs) (h, _) = cc
 set_reads f g (Sym n ∷ xs) (h, _) = cc
 set_reads f g (Label l ∷ xs) (h, _) = cc
 
-put_reads : (f : FirstForm) (g : ℕ) (b : List Bound) → AllFit f.word g [] b → Reads f 1 b (tokens_with f.word (put_row f) b)
+put_reads : (f : FirstForm) (g : ℕ) (b : List Bound) → AllFit f.word g [] b → Reads f 1 b (tokens_with f.word no_names (put_row f) b)
 put_reads f g [] h = puts refl refl (put_row_tokens f)
 put_reads f g (x ∷ xs) h = absurd h
 
-end_reads : (f : FirstForm) (g : ℕ) (b : List Bound) → AllFit f.word g [] b → Reads f 2 b (tokens_with f.word (end_row f) b)
+end_reads : (f : FirstForm) (g : ℕ) (b : List Bound) → AllFit f.word g [] b → Reads f 2 b (tokens_with f.word no_names (end_row f) b)
 end_reads f g [] h = ends refl refl (end_row_tokens f)
 end_reads f g (x ∷ xs) h = absurd h
 
 reads_at : (f : FirstForm) (g r : ℕ) (b : List Bound) (known row : Row) → known ≡ row
-    → (AllFit f.word g known.holes b → Reads f r b (tokens_with f.word known b)) → AllFit f.word g row.holes b → Reads f r b (tokens_with f.word row b)
-reads_at f g r b known row e here = subst (λ x. AllFit f.word g x.holes b → Reads f r b (tokens_with f.word x b)) e here
+    → (AllFit f.word g known.holes b → Reads f r b (tokens_with f.word no_names known b)) → AllFit f.word g row.holes b → Reads f r b (tokens_with f.word no_names row b)
+reads_at f g r b known row e here = subst (λ x. AllFit f.word g x.holes b → Reads f r b (tokens_with f.word no_names x b)) e here
 
 -- a row of the description, by its number
 pub row_reads : (f : FirstForm) (g r : ℕ) (b : List Bound) (row : Row)
-    → slice_get (set_row f ∷ put_row f ∷ end_row f ∷ []) r ≡ Some row → AllFit f.word g row.holes b → Reads f r b (tokens_with f.word row b)
+    → slice_get (set_row f ∷ put_row f ∷ end_row f ∷ []) r ≡ Some row → AllFit f.word g row.holes b → Reads f r b (tokens_with f.word no_names row b)
 row_reads f g zero b row e h = reads_at f g 0 b (set_row f) row (cc) (set_reads f g b) h
 row_reads f g (suc zero) b row e h = reads_at f g 1 b (put_row f) row (cc) (put_reads f g b) h
 row_reads f g (suc (suc zero)) b row e h = reads_at f g 2 b (end_row f) row (cc) (end_reads f g b) h

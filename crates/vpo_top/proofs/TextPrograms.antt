@@ -9,7 +9,7 @@ use Rattle.asm_token.proofs.Steps.{spelled_once, past_gap, no_tokens, blank_or_t
 use Rattle.md_rows.specs.declared.description.RawDescription.{RawDescription}
 use Rattle.md_rows.specs.declared.instance.Bound.{Bound}
 use Rattle.md_rows.specs.declared.instance.Instance.{Instance}
-use Rattle.md_rows.specs.Instances.{general_set, tokens_with}
+use Rattle.md_rows.specs.Instances.{no_names, general_set, tokens_with}
 use Rattle.vpo_top.specs.FirstDescription.{FirstForm, HaveNames, BeginsWith, IsDescription, description_of}
 use Rattle.vpo_top.specs.Assembly.{IsLines, IsSkipped, HasTokensOf, AreLinesOf, BeginsText, IsText}
 use Rattle.vpo_top.proofs.NoLineFeed.{IsNoFeed}
@@ -86,9 +86,9 @@ module _ (f : FirstForm) (names : HaveNames f) where
 
   not_skipped : (line : List ℕ) (i : Instance) → IsSkipped line → HasTokensOf (description_of f) line i → ⊥
   not_skipped line i s h =
-      reads_some i.row i.binding (tokens_with f.word h.row i.binding)
+      reads_some i.row i.binding (tokens_with f.word no_names h.row i.binding)
       (row_reads f (general_set (description_of f).registers) i.row i.binding h.row h.instance.has_row h.instance.fit)
-      (skipped_spells line (tokens_with f.word h.row i.binding) s h.spells)
+      (skipped_spells line (tokens_with f.word no_names h.row i.binding) s h.spells)
 
   at_line : (l m : List ℕ) (i : Instance) → l ≡ m → HasTokensOf (description_of f) l i → HasTokensOf (description_of f) m i
   at_line l m i e h = subst (λ x. HasTokensOf (description_of f) x i) e h

@@ -4,7 +4,7 @@ use Rattle.asm_token.specs.Tokens.{Name, Spells, is_blank_or_tab}
 use Rattle.md_rows.specs.declared.description.RawDescription.{RawDescription}
 use Rattle.md_rows.specs.declared.instance.Instance.{Instance}
 use Rattle.md_rows.specs.declared.row.Row.{Row}
-use Rattle.md_rows.specs.Instances.{IsInstance, tokens_with}
+use Rattle.md_rows.specs.Instances.{no_names, IsInstance, tokens_with}
 
 -- the bytes are these lines, each ended by a line feed, which the last may lack
 pub data IsLines : List ℕ → List (List ℕ) → Type 0 where
@@ -21,7 +21,7 @@ pub data IsSkipped : List ℕ → Type 0 where
 pub record HasTokensOf (d : RawDescription) (line : List ℕ) (i : Instance) : Type 0 where
   pub row : Row
   pub instance : IsInstance d i row
-  pub spells : Spells is_blank_or_tab line (tokens_with d.word row i.binding)
+  pub spells : Spells is_blank_or_tab line (tokens_with d.word no_names row i.binding)
 
 -- the line is this instruction, and no other
 pub record IsLineOf (d : RawDescription) (line : List ℕ) (i : Instance) : Type 0 where

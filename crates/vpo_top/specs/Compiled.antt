@@ -7,7 +7,7 @@ use Rattle.md_rows.specs.declared.instance.Bound.{Bound}
 use Rattle.md_rows.specs.declared.instance.Bound.TheVariants.{Num}
 use Rattle.md_rows.specs.declared.instance.Instance.{Instance}
 use Rattle.md_rows.specs.declared.row.Row.{Row}
-use Rattle.md_rows.specs.Instances.{tokens_with}
+use Rattle.md_rows.specs.Instances.{no_names, tokens_with}
 use Rattle.vpo_top.specs.declared.source.SourceProgram.{SourceProgram}
 
 -- what stands in the holes of a row that has a number hole, or none
@@ -41,7 +41,7 @@ instructions_of p = flat_map call_instructions p.calls ++ return_instructions p.
 
 -- the line of an instruction: a tab, the tokens, a line feed
 abbrev pub row_line : ℕ → List Bound → Option Row → List ℕ
-row_line w b (Some row) = 9 ∷ (line_of (tokens_with w row b) ++ 10 ∷ [])
+row_line w b (Some row) = 9 ∷ (line_of (tokens_with w no_names row b) ++ 10 ∷ [])
 row_line w b None = []
 
 abbrev pub instruction_line : RawDescription → Instance → List ℕ

@@ -5,7 +5,7 @@ ghost use Rattle.rtl_word.specs.Words.{IsWordSize};
 ghost use Rattle.asm_token.specs.Tokens.{Token as SpecToken, Number as NumberToken, spelling};
 ghost use Rattle.asm_token.specs.Seen.{token_of};
 ghost use Rattle.asm_token.specs.Line.{is_word, line_of};
-ghost use Rattle.md_rows.specs.Instances.{piece_token, hole_token, tokens_with};
+ghost use Rattle.md_rows.specs.Instances.{no_names, piece_token, hole_token, tokens_with};
 ghost use Rattle.vpo_top.specs.Compiled.{binding_of, instance_of, call_instructions, row_line, instruction_line, instruction_lines, compiled_text};
 ghost use Rattle.vpo_top.specs.Spacing.{separator, next_before, line_from, with_token};
 
@@ -95,7 +95,7 @@ fn push_tokens(
     number: Option<u16>,
 ) -> Result<(), AllocError>
     requires { IsWordSize bits }
-    ensures { OnOk result (text.new.items ≡ text.old.items ++ line_from Before.Start (tokens_with bits row.now (binding_of number))) }
+    ensures { OnOk result (text.new.items ≡ text.old.items ++ line_from Before.Start (tokens_with bits no_names row.now (binding_of number))) }
 {
     let mut before = Before::Start;
     for piece in row.text.as_slice() {
@@ -168,7 +168,7 @@ fn token_of_piece<'a>(
     piece: &'a Piece,
 ) -> Option<Token<'a>>
     requires { IsWordSize bits }
-    ensures { option_map token_of result ≡ piece_token bits holes.now (binding_of number) piece.now }
+    ensures { option_map token_of result ≡ piece_token bits no_names holes.now (binding_of number) piece.now }
 {
     match piece {
         Piece::Name(name) => Some(Token::Name(name.as_slice())),
@@ -183,7 +183,7 @@ fn token_of_piece<'a>(
 
 fn number_of_hole(bits: u32, holes: &[Hole], number: Option<u16>, hole: u8) -> Option<i64>
     requires { IsWordSize bits }
-    ensures { option_map NumberToken result ≡ hole_token bits (slice_get holes.now hole) (slice_get (binding_of number) hole) }
+    ensures { option_map NumberToken result ≡ hole_token bits no_names (slice_get holes.now hole) (slice_get (binding_of number) hole) }
 {
     let Some(
         Hole::Num {

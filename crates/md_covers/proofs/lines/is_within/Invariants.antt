@@ -1,5 +1,5 @@
 use Rattle.std.proofs.Common.{◌≡◌, drop, false, nat_le}
-use Rattle.md_covers.specs.Lines.{bytes_after}
+use Rattle.md_rows.specs.Lines.{bytes_after}
 use Rattle.md_covers.proofs.lines.is_within.Given as goal
 
 abbrev pub invariant-loop-i : goal.invariant-loop-i

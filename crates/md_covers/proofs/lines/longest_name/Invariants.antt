@@ -1,5 +1,5 @@
 use Rattle.std.proofs.Common.{◌≡◌, drop, max}
-use Rattle.md_covers.specs.Lines.{longest_name}
+use Rattle.md_rows.specs.Lines.{longest_name}
 use Rattle.md_covers.proofs.lines.longest_name.Given as goal
 
 abbrev pub invariant-loop-i : goal.invariant-loop-i

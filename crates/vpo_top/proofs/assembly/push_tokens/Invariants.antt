@@ -1,5 +1,5 @@
 use Rattle.std.proofs.Common.{◌≡◌, ◌++◌, drop, filter_map}
-use Rattle.md_rows.specs.Instances.{piece_token, tokens_with}
+use Rattle.md_rows.specs.Instances.{no_names, piece_token, tokens_with}
 use Rattle.vpo_top.specs.declared.assembly.Before.TheVariants.{Start}
 use Rattle.vpo_top.specs.Compiled.{binding_of}
 use Rattle.vpo_top.specs.Spacing.{line_from}
@@ -7,5 +7,5 @@ use Rattle.vpo_top.proofs.assembly.push_tokens.Given as goal
 
 abbrev pub invariant-loop-piece : goal.invariant-loop-piece
 invariant-loop-piece l =
-    l.text.items ++ line_from l.before (filter_map (piece_token l.bits l.row.holes (binding_of l.number)) (drop l.piece-index l.row.text))
-    ≡ l.fn.text.items ++ line_from Start (tokens_with l.bits l.row (binding_of l.number))
+    l.text.items ++ line_from l.before (filter_map (piece_token l.bits no_names l.row.holes (binding_of l.number)) (drop l.piece-index l.row.text))
+    ≡ l.fn.text.items ++ line_from Start (tokens_with l.bits no_names l.row (binding_of l.number))

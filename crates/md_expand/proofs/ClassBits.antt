@@ -1,0 +1,54 @@
+-- The bits of classes, from the last declaration to the first.
+use Rattle.std.proofs.Common.{◌≡◌, ℕ, ◌+◌, ◌<◌, ◌≤◌, ◌-◌, Bool, true, false, cond, List, ◌∷◌, length, drop, get_or, refl, sym, ap, ◌∙◌, arith}
+use Rattle.std.specs.declared.option.Option.{Option}
+use Rattle.std.specs.declared.option.Option.TheVariants.{Some}
+use Rattle.std.specs.List.{find}
+use Rattle.std.specs.Option.{option_map}
+use Rattle.std.specs.Str.{bytes_eq}
+use Rattle.std.proofs.lemmas.List.{drop_more}
+use Rattle.md_rows.specs.declared.description.Register.{Register}
+use Rattle.md_text.specs.Forms.{Form, Version, MachineName, WordBits, MemorySize, DataBegin, StackSize, RegisterLine, FlagLine, ClassLine, ModeLine, RowLine}
+use Rattle.md_text.specs.Declarations.{Declaration, Class, register_bits, classes_in}
+use Rattle.md_forms.specs.Seen.{declaration_of, declarations_of}
+use Rattle.md_forms.specs.declared.declarations.Declaration.{Declaration as Read}
+use Rattle.md_expand.specs.Bits.{bits_among}
+
+-- the bits of the first class of a name
+abbrev pub first_bits : List Register → List Declaration → List ℕ → Option ℕ
+first_bits rs ds name = option_map (λ c. register_bits rs c.registers) (find (λ c. bytes_eq c.name name) (classes_in ds))
+
+choose :
+    (b : Bool) (rs : List Register) (c : Class) (rest : Option Class)
+    → cond b (Some (register_bits rs c.registers)) (option_map (λ c. register_bits rs c.registers) rest)
+    ≡ option_map (λ c. register_bits rs c.registers) (cond b (Some c) rest)
+choose true rs c rest = refl
+choose false rs c rest = refl
+
+among :
+    (rs : List Register) (form : Form) (line : ℕ) (ds : List Declaration) (before : List ℕ → Option ℕ) (name : List ℕ)
+    → before name ≡ first_bits rs ds name → bits_among rs form before name ≡ first_bits rs (record { line = line; form = form } ∷ ds) name
+among rs Version line ds before name e = e
+among rs (MachineName n) line ds before name e = e
+among rs (WordBits z) line ds before name e = e
+among rs (MemorySize z) line ds before name e = e
+among rs (DataBegin z) line ds before name e = e
+among rs (StackSize z) line ds before name e = e
+among rs (RegisterLine k n role) line ds before name e = e
+among rs (FlagLine k n) line ds before name e = e
+among rs (ClassLine n registers) line ds before name e =
+    ap (λ x. cond (bytes_eq n name) (Some (register_bits rs registers)) x) e
+    ∙ choose (bytes_eq n name) rs (record { name = n; registers = registers }) (find (λ c. bytes_eq c.name name) (classes_in ds))
+among rs (ModeLine n text tree) line ds before name e = e
+among rs (RowLine text transfer) line ds before name e = e
+
+pub one_before :
+    (rs : List Register) (all : List Read) (left : ℕ) (d : Read) (before : List ℕ → Option ℕ) (name : List ℕ)
+    → 0 < left → left ≤ length all → before name ≡ first_bits rs (declarations_of (drop left all)) name
+    → bits_among rs (declaration_of (get_or all (left - 1) d)).form before name ≡ first_bits rs (declarations_of (drop (left - 1) all)) name
+one_before rs all left d before name some within e =
+    let i = left - 1 in
+    let next : i + 1 ≡ left = omega arith in
+    let split : drop i all ≡ get_or all i d ∷ drop left all =
+    drop_more all i d (omega arith) ∙ ap (λ n. get_or all i d ∷ drop n all) next in
+    among rs (declaration_of (get_or all i d)).form (get_or all i d).line (declarations_of (drop left all)) before name e
+    ∙ ap (λ x. first_bits rs (declarations_of x) name) (sym split)

@@ -1,0 +1,97 @@
+-- The fillings of a mode, from declaration to declaration.
+use Rattle.std.proofs.Common.{◌≡◌, ℕ, suc, ◌+◌, Bool, true, false, cond, List, [], ◌∷◌, ◌++◌, map, length, drop, get_or, refl, sym, ap, ◌∙◌, append_assoc, ◌<◌, ◌≢◌}
+use Rattle.std.specs.List.{filter}
+use Rattle.std.specs.Str.{bytes_eq}
+use Rattle.std.proofs.lemmas.List.{drop_more}
+use Rattle.md_text.specs.Pieces.{Named, Piece, Literal, Hole, slots, has_name}
+use Rattle.md_text.specs.Forms.{Form, Version, MachineName, WordBits, MemorySize, DataBegin, StackSize, RegisterLine, FlagLine, ClassLine, ModeLine, RowLine}
+use Rattle.md_text.specs.Declarations.{Declaration, Alternative, alternatives_in, mode_names}
+use Rattle.md_text.specs.Expansion as text
+use Rattle.md_forms.specs.Seen.{declaration_of, declarations_of}
+use Rattle.md_forms.specs.declared.declarations.Declaration.{Declaration as Read}
+use Rattle.md_expand.specs.Fillings.{alternative_named}
+
+choose :
+    (b : Bool) (w : ℕ) (ds : List Declaration) (a : Alternative) (rest : List Alternative)
+    → map (text.filling_of w ds) (cond b (a ∷ rest) rest) ≡ cond b (text.filling_of w ds a ∷ []) [] ++ map (text.filling_of w ds) rest
+choose true w ds a rest = refl
+choose false w ds a rest = refl
+
+first :
+    (w : ℕ) (ds : List Declaration) (name : List ℕ) (form : Form) (line : ℕ) (rest : List Declaration)
+    → map (text.filling_of w ds) (text.alternatives_of (record { line = line; form = form } ∷ rest) name)
+    ≡ alternative_named w ds name form ++ map (text.filling_of w ds) (text.alternatives_of rest name)
+first w ds name Version line rest = refl
+first w ds name (MachineName n) line rest = refl
+first w ds name (WordBits z) line rest = refl
+first w ds name (MemorySize z) line rest = refl
+first w ds name (DataBegin z) line rest = refl
+first w ds name (StackSize z) line rest = refl
+first w ds name (RegisterLine k n role) line rest = refl
+first w ds name (FlagLine k n) line rest = refl
+first w ds name (ClassLine n registers) line rest = refl
+first w ds name (ModeLine n pieces tree) line rest =
+    choose (bytes_eq n name) w ds (record { mode = n; text = pieces; tree = tree }) (text.alternatives_of rest name)
+first w ds name (RowLine pieces transfer) line rest = refl
+
+pub one_further :
+    (w : ℕ) (ds : List Declaration) (name : List ℕ) (all : List Read) (i : ℕ) (d : Read) (done more : List text.Filling)
+    → i < length all → d ≡ get_or all i d → more ≡ done ++ alternative_named w ds name (declaration_of d).form
+    → more ++ map (text.filling_of w ds) (text.alternatives_of (declarations_of (drop (i + 1) all)) name)
+    ≡ done ++ map (text.filling_of w ds) (text.alternatives_of (declarations_of (drop i all)) name)
+one_further w ds name all i d done more lt at e =
+    let rest = map (text.filling_of w ds) (text.alternatives_of (declarations_of (drop (i + 1) all)) name) in
+    let split : drop i all ≡ d ∷ drop (i + 1) all = drop_more all i d lt ∙ ap (λ x. x ∷ drop (i + 1) all) (sym at) in
+    ap (λ fs. fs ++ rest) e ∙ append_assoc done (alternative_named w ds name (declaration_of d).form) rest
+    ∙ ap (λ fs. done ++ fs)
+    (sym (ap (λ xs. map (text.filling_of w ds) (text.alternatives_of (declarations_of xs) name)) split
+    ∙ first w ds name (declaration_of d).form d.line (declarations_of (drop (i + 1) all))))
+
+abbrev pub is_some_item : {A : Type 0} → List A → Bool
+is_some_item [] = false
+is_some_item (x ∷ xs) = true
+
+abbrev pub fillings_or : List text.Filling → List text.Filling → List text.Filling
+fillings_or fs gs = cond (is_some_item fs) fs gs
+
+step :
+    (b : Bool) (w : ℕ) (ds : List Declaration) (name : List ℕ) (a : Alternative) (ys : List Alternative) → bytes_eq a.mode name ≡ b
+    → has_name (map (λ a. a.mode) ys) name ≡ is_some_item (map (text.filling_of w ds) (filter (λ a. bytes_eq a.mode name) ys))
+    → has_name (map (λ a. a.mode) (a ∷ ys)) name ≡ is_some_item (map (text.filling_of w ds) (filter (λ a. bytes_eq a.mode name) (a ∷ ys)))
+step true w ds name a ys e rest = rw e refl
+step false w ds name a ys e rest = rw e rest
+
+named : (w : ℕ) (ds : List Declaration) (name : List ℕ) (ys : List Alternative) → has_name (map (λ a. a.mode) ys) name ≡ is_some_item (map (text.filling_of w ds) (filter (λ a. bytes_eq a.mode name) ys))
+named w ds name [] = refl
+named w ds name (a ∷ ys) = step (bytes_eq a.mode name) w ds name a ys refl (named w ds name ys)
+
+-- a name is a mode's, if the mode has alternatives
+is_mode_by :
+    (w : ℕ) (ds : List Declaration) (name : List ℕ) → has_name (mode_names ds) name ≡ is_some_item (map (text.filling_of w ds) (text.alternatives_of ds name))
+is_mode_by w ds name = named w ds name (alternatives_in ds)
+
+by_mode : (b : Bool) (fs gs : List text.Filling) → b ≡ is_some_item fs → cond b fs gs ≡ cond (is_some_item fs) fs gs
+by_mode b fs gs e = rw e refl
+
+pub fillings_named :
+    (w : ℕ) (ds : List Declaration) (name : List ℕ)
+    → text.fillings w ds (Named name) ≡ fillings_or (map (text.filling_of w ds) (text.alternatives_of ds name)) (text.itself (text.taken_by w ds (Named name)) ∷ [])
+fillings_named w ds name =
+    by_mode (has_name (mode_names ds) name) (map (text.filling_of w ds) (text.alternatives_of ds name)) (text.itself (text.taken_by w ds (Named name)) ∷ []) (is_mode_by w ds name)
+
+pub from_none :
+    {A : Type 0} (f : A → text.Filling) (w : ℕ) (ds : List Declaration) (name : List ℕ) (found : List A) → length found ≡ 0
+    → map f found ≡ map (text.filling_of w ds) (text.alternatives_of ds name) → text.itself (text.taken_by w ds (Named name)) ∷ [] ≡ text.fillings w ds (Named name)
+from_none f w ds name [] e same = sym (fillings_named w ds name ∙ ap (λ fs. fillings_or fs (text.itself (text.taken_by w ds (Named name)) ∷ [])) (sym same))
+from_none f w ds name (x ∷ xs) e same = absurd (cc)
+
+pub from_some :
+    {A : Type 0} (f : A → text.Filling) (w : ℕ) (ds : List Declaration) (name : List ℕ) (found : List A) → length found ≢ 0
+    → map f found ≡ map (text.filling_of w ds) (text.alternatives_of ds name) → map f found ≡ text.fillings w ds (Named name)
+from_some f w ds name [] e same = absurd (e refl)
+from_some f w ds name (x ∷ xs) e same = sym (fillings_named w ds name ∙ ap (λ fs. fillings_or fs (text.itself (text.taken_by w ds (Named name)) ∷ [])) (sym same))
+
+pub as_many_holes : (w : ℕ) (ds : List Declaration) (ps : List Piece) → length (slots ps) ≡ length (text.holes_in (map (text.shown w ds) ps))
+as_many_holes w ds [] = refl
+as_many_holes w ds (Literal t ∷ ps) = as_many_holes w ds ps
+as_many_holes w ds (Hole h ∷ ps) = ap suc (as_many_holes w ds ps)

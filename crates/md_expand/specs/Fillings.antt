@@ -1,0 +1,32 @@
+-- Fillings of the program as those of texts.
+use Rattle.std.specs.Prelude.{ℕ, ◌+◌, List, [], ◌∷◌, map, length, if◌then◌else◌}
+use Rattle.std.specs.Str.{bytes_eq}
+use Rattle.std.specs.Global.{Vec}
+use Rattle.md_text.specs.Forms.{Form, ModeLine}
+use Rattle.md_text.specs.Declarations.{Declaration}
+use Rattle.md_text.specs.Expansion as text
+use Rattle.md_forms.specs.Seen.{pieces_of}
+use Rattle.md_expand.specs.declared.fillings.Filling.{Filling}
+use Rattle.md_expand.specs.declared.fillings.Filling.TheVariants.{Itself, Alternative}
+
+-- of an alternative the name of its mode doesn't matter
+abbrev pub filling_seen : ℕ → List Declaration → Filling → text.Filling
+filling_seen w ds (Itself h) = text.itself h
+filling_seen w ds (Alternative pieces tree) = text.filling_of w ds (record { mode = []; text = pieces_of pieces.now; tree = tree.now })
+
+-- the filling that a form gives for the mode of this name
+abbrev pub alternative_named : ℕ → List Declaration → List ℕ → Form → List text.Filling
+alternative_named w ds name (ModeLine mode pieces tree) =
+    if bytes_eq mode name then text.filling_of w ds (record { mode = mode; text = pieces; tree = tree }) ∷ [] else []
+alternative_named w ds name _ = []
+
+abbrev pub all_seen : ℕ → List Declaration → List Filling → List text.Filling
+all_seen w ds fs = map (filling_seen w ds) fs
+
+-- how many holes fillings have together
+abbrev pub hole_total : ℕ → List Declaration → List Filling → ℕ
+hole_total w ds [] = 0
+hole_total w ds (f ∷ fs) = length (text.holes_in (filling_seen w ds f).text) + hole_total w ds fs
+
+abbrev pub all_options : ℕ → List Declaration → List (Vec Filling) → List (List text.Filling)
+all_options w ds options = map (λ v. all_seen w ds v.items) options

@@ -1,0 +1,157 @@
+//! All rows without modes.
+
+ghost use Rattle.std.specs.Prelude.{◌≡◌, ◌++◌, ◌∷◌, ◌+◌, ◌≤◌, [], List, map, take, length, IfOk};
+ghost use Rattle.md_text.specs.Pieces.{slots};
+ghost use Rattle.md_text.specs.Expansion.{Expanded as Row, expanded, choices, fillings, expansions_of, expansions};
+ghost use Rattle.md_text.specs.Forms.{RowLine as SaidRow};
+ghost use Rattle.md_forms.specs.Seen.{piece_of, pieces_of, form_of, declarations_of};
+ghost use Rattle.md_expand.specs.Fillings.{all_seen, all_options};
+ghost use Rattle.md_expand.specs.Expanded.{AllExpanded};
+ghost use Rattle.md_expand.specs.Product.{rows_of};
+
+use crate::expanded::{Expanded, expand_row};
+use crate::fillings::{Filling, fillings};
+use crate::scope::Scope;
+use md_forms::{Declaration, Form, OpenTransfer, Piece};
+use rtl_tree::NoMemory;
+use std::alloc::Global;
+
+/// A row line.
+#[derive(Clone, Copy)]
+struct RowLine<'a> {
+    line: u32,
+    text: &'a [Piece],
+    transfer: &'a OpenTransfer,
+}
+
+/// What may stand in place of each hole of a text.
+fn options_of<'a>(
+    alloc: Global,
+    scope: &Scope<'a>,
+    text: &[Piece],
+) -> Result<Vec<Vec<Filling<'a>>>, NoMemory>
+    ensures { IfOk result (λ options. all_options scope.now.width (declarations_of scope.now.all.now) options.items
+        ≡ map (λ h. fillings scope.now.width (declarations_of scope.now.all.now) h.kind) (slots (pieces_of text.now))) }
+{
+    let mut options = Vec::new(alloc);
+    for piece in text {
+        options = with_options(alloc, scope, options, piece)?;
+    }
+    Ok(options)
+}
+
+fn with_options<'a>(
+    alloc: Global,
+    scope: &Scope<'a>,
+    mut options: Vec<Vec<Filling<'a>>>,
+    piece: &Piece,
+) -> Result<Vec<Vec<Filling<'a>>>, NoMemory>
+    ensures { IfOk result (λ more. all_options scope.now.width (declarations_of scope.now.all.now) more.items
+        ≡ all_options scope.now.width (declarations_of scope.now.all.now) options.entry.items
+        ++ map (λ h. fillings scope.now.width (declarations_of scope.now.all.now) h.kind) (slots (piece_of piece.now ∷ []))) }
+{
+    match piece {
+        Piece::Hole(slot) => options.push(fillings(alloc, scope, &slot.kind)?)?,
+        _ => {}
+    }
+    Ok(options)
+}
+
+fn extended<'a>(
+    alloc: Global,
+    chosen: &[Filling<'a>],
+    filling: Filling<'a>,
+) -> Result<Vec<Filling<'a>>, NoMemory>
+    ensures { IfOk result (λ more. more.items ≡ chosen.now ++ filling.entry ∷ []) }
+{
+    let mut more = Vec::from_slice(alloc, chosen)?;
+    more.push(filling)?;
+    Ok(more)
+}
+
+/// Writes the rows that come of fillings of the holes that are left, with what is chosen for those before, until there are so many.
+fn expand_choices<'a>(
+    alloc: Global,
+    scope: &Scope<'a>,
+    row: RowLine<'_>,
+    options: &[Vec<Filling<'a>>],
+    chosen: &[Filling<'a>],
+    limit: usize,
+    mut into: Vec<Expanded>,
+) -> Result<Vec<Expanded>, NoMemory>
+    requires room { length into.items ≤ limit }
+    requires slots { length chosen.now + length options.now ≡ length (slots (pieces_of row.text.now)) }
+    ensures room { IfOk result (λ more. length more.items ≤ limit) }
+    ensures rows { IfOk result (λ more. (done : List Row) → AllExpanded done into.items
+        → AllExpanded (take limit (done ++ rows_of scope.now.width (declarations_of scope.now.all.now) row.entry chosen.now options.now)) more.items) }
+{
+    if into.len() >= limit {
+        return Ok(into);
+    }
+    match options {
+        [] => {
+            into.push(expand_row(alloc, scope, row.line, row.text, row.transfer, chosen)?)?;
+            Ok(into)
+        }
+        [first, rest @ ..] => {
+            for filling in first {
+                let more = extended(alloc, chosen, *filling)?;
+                into = expand_choices(alloc, scope, row, rest, &more, limit, into)?;
+            }
+            Ok(into)
+        }
+    }
+}
+
+/// Writes the rows that come of a line, until there are so many.
+fn expand_line(
+    alloc: Global,
+    scope: &Scope<'_>,
+    declaration: &Declaration,
+    limit: usize,
+    into: Vec<Expanded>,
+) -> Result<Vec<Expanded>, NoMemory>
+    requires room { length into.items ≤ limit }
+    ensures room { IfOk result (λ more. length more.items ≤ limit) }
+    ensures rows { IfOk result (λ more. (done : List Row) → AllExpanded done into.items
+        → AllExpanded (take limit (done ++ expansions_of scope.now.width (declarations_of scope.now.all.now) declaration.now.line (form_of declaration.now.form))) more.items) }
+{
+    match &declaration.form {
+        Form::RowLine { text, transfer } => {
+            let row = RowLine {
+                line: declaration.line,
+                text: text.as_slice(),
+                transfer,
+            };
+            expand_row_line(alloc, scope, row, limit, into)
+        }
+        _ => Ok(into),
+    }
+}
+
+fn expand_row_line(
+    alloc: Global,
+    scope: &Scope<'_>,
+    row: RowLine<'_>,
+    limit: usize,
+    into: Vec<Expanded>,
+) -> Result<Vec<Expanded>, NoMemory>
+    requires room { length into.items ≤ limit }
+    ensures room { IfOk result (λ more. length more.items ≤ limit) }
+    ensures rows { IfOk result (λ more. (done : List Row) → AllExpanded done into.items
+        → AllExpanded (take limit (done ++ expansions_of scope.now.width (declarations_of scope.now.all.now) row.entry.line (SaidRow (pieces_of row.entry.text.now) row.entry.transfer.now))) more.items) }
+{
+    let options = options_of(alloc, scope, row.text)?;
+    expand_choices(alloc, scope, row, &options, &[], limit, into)
+}
+
+/// The first rows without modes, at most so many.
+pub fn expand(alloc: Global, scope: &Scope<'_>, limit: usize) -> Result<Vec<Expanded>, NoMemory>
+    ensures { IfOk result (λ rows. AllExpanded (take limit (expansions scope.now.width (declarations_of scope.now.all.now))) rows.items) }
+{
+    let mut rows = Vec::new(alloc);
+    for declaration in scope.all {
+        rows = expand_line(alloc, scope, declaration, limit, rows)?;
+    }
+    Ok(rows)
+}

@@ -1,0 +1,3 @@
+pub mod HoleNames
+pub mod MovesRead
+pub mod Readings

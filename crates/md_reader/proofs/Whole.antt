@@ -1,0 +1,96 @@
+-- The rules of a text are those of what it declares.
+use Rattle.std.proofs.Common.{◌≡◌, ℕ, ◌<◌, ◌≤◌, List, refl, subst, arith}
+use Rattle.std.specs.declared.option.Option.TheVariants.{Some, None}
+use Rattle.std.specs.Prelude.{IsTrue}
+use Rattle.md_text.specs.Declarations.{Declared, Declares}
+use Rattle.md_text.specs.Heading.{is_out_of_range}
+use Rattle.md_text.specs.Rules.{is_declared_twice, is_undeclared, has_reserved_name, HasGoodTransfer, has_misused_hole, has_mode_in_mode, is_too_large}
+use Rattle.md_text.specs.Accepted.{Rule, BadByte, OtherVersion, NoForm, BadHeading, OutOfRange, DeclaredTwice, NotDeclared, ReservedName, WrongRoles, BadTransfer, MisusedHole, ModeInMode, TooLarge, TooMany, number_of, Breaks, DeclaresBad, Told, IsAccepted, HasBroken, HasBadHeading, HasWrongRoles, HasBrokenRow, HasTooMany}
+use Rattle.md_text.proofs.Declaring.{declared_once}
+use Rattle.md_forms.specs.declared.rules.Told.{Told as Broken}
+use Rattle.md_forms.specs.SeenRules.{rule_of}
+use Rattle.md_parser.specs.FirstRules.{KeepsFirstRules}
+use Rattle.md_rules.specs.Broken.{BreaksBy, IsFirst}
+
+from_one : (r : Rule) → 1 ≤ number_of r
+from_one BadByte = omega arith
+from_one OtherVersion = omega arith
+from_one NoForm = omega arith
+from_one BadHeading = omega arith
+from_one OutOfRange = omega arith
+from_one DeclaredTwice = omega arith
+from_one NotDeclared = omega arith
+from_one ReservedName = omega arith
+from_one WrongRoles = omega arith
+from_one BadTransfer = omega arith
+from_one MisusedHole = omega arith
+from_one ModeInMode = omega arith
+from_one TooLarge = omega arith
+from_one TooMany = omega arith
+
+to_fourteen : (r : Rule) → number_of r < 15
+to_fourteen BadByte = omega arith
+to_fourteen OtherVersion = omega arith
+to_fourteen NoForm = omega arith
+to_fourteen BadHeading = omega arith
+to_fourteen OutOfRange = omega arith
+to_fourteen DeclaredTwice = omega arith
+to_fourteen NotDeclared = omega arith
+to_fourteen ReservedName = omega arith
+to_fourteen WrongRoles = omega arith
+to_fourteen BadTransfer = omega arith
+to_fourteen MisusedHole = omega arith
+to_fourteen ModeInMode = omega arith
+to_fourteen TooLarge = omega arith
+to_fourteen TooMany = omega arith
+
+there : (P : Declared → ℕ → Type 0) (text : List ℕ) (d : Declared) (line : ℕ) → Declares text d → P d line → DeclaresBad P text line
+there P text d line p b = record { declared = d; declares = p; breaks = b }
+
+here : (P : Declared → ℕ → Type 0) (text : List ℕ) (d : Declared) (line : ℕ) → Declares text d → DeclaresBad P text line → P d line
+here P text d line p b = subst (λ e. P e line) (declared_once text b.declared d b.declares p) b.breaks
+
+of_text : (text : List ℕ) (d : Declared) (line : ℕ) → Declares text d → (r : Rule) → BreaksBy r d line → Breaks r text line
+of_text text d line p BadByte b = absurd b
+of_text text d line p OtherVersion b = absurd b
+of_text text d line p NoForm b = absurd b
+of_text text d line p BadHeading b = there _ text d line p b
+of_text text d line p OutOfRange b = there _ text d line p b
+of_text text d line p DeclaredTwice b = there _ text d line p b
+of_text text d line p NotDeclared b = there _ text d line p b
+of_text text d line p ReservedName b = there _ text d line p b
+of_text text d line p WrongRoles b = there _ text d line p b
+of_text text d line p BadTransfer b = there _ text d line p b
+of_text text d line p MisusedHole b = there _ text d line p b
+of_text text d line p ModeInMode b = there _ text d line p b
+of_text text d line p TooLarge b = there _ text d line p b
+of_text text d line p TooMany b = there _ text d line p b
+
+of_declared : (text : List ℕ) (d : Declared) (line : ℕ) → Declares text d → KeepsFirstRules text → (r : Rule) → Breaks r text line → BreaksBy r d line
+of_declared text d line p k BadByte b = k BadByte line (omega arith) b
+of_declared text d line p k OtherVersion b = k OtherVersion line (omega arith) b
+of_declared text d line p k NoForm b = k NoForm line (omega arith) b
+of_declared text d line p k BadHeading b = here _ text d line p b
+of_declared text d line p k OutOfRange b = here _ text d line p b
+of_declared text d line p k DeclaredTwice b = here _ text d line p b
+of_declared text d line p k NotDeclared b = here _ text d line p b
+of_declared text d line p k ReservedName b = here _ text d line p b
+of_declared text d line p k WrongRoles b = here _ text d line p b
+of_declared text d line p k BadTransfer b = here _ text d line p b
+of_declared text d line p k MisusedHole b = here _ text d line p b
+of_declared text d line p k ModeInMode b = here _ text d line p b
+of_declared text d line p k TooLarge b = here _ text d line p b
+of_declared text d line p k TooMany b = here _ text d line p b
+
+not_less : (m n : ℕ) → m < n → n ≤ m → ⊥
+not_less m n p q = omega arith
+
+pub told : (text : List ℕ) (d : Declared) (t : Broken) → Declares text d → KeepsFirstRules text → IsFirst 1 15 d (Some t) → Told text (rule_of t.rule) t.line
+told text d t p k first = record {
+  broken = of_text text d t.line p (rule_of t.rule) first.broken;
+  least_rule = λ r l lower b. first.least_rule r l (from_one r) lower (of_declared text d l p k r b);
+  least_line = λ l lower b. not_less l t.line lower (first.least_line l (of_declared text d l p k (rule_of t.rule) b));
+}
+
+pub accepted : (text : List ℕ) (d : Declared) → Declares text d → KeepsFirstRules text → IsFirst 1 15 d None → IsAccepted text
+accepted text d p k first = λ r line b. first r line (from_one r) (to_fourteen r) (of_declared text d line p k r b)

@@ -1,0 +1,29 @@
+//! Reads the text of a machine description into its rows, with each mode replaced by its alternatives.
+//!
+//! `read_description` gives the description that an accepted text says, or the least of rules 1 to 14 that the text breaks, at its
+//! least line. Rules 1 to 3 are of lines alone; the others are of what the lines declare, and stand in the order of their numbers.
+//!
+//! - `refused`: the reason that is told.
+//! - `transfers`, `row_rules`: the rules of rows without modes.
+//! - `told`: which rule is told of what a text declares.
+//! - `names`, `numbers`, `rows`, `described`: the description.
+//! - `reader`: whole texts.
+#![tactic(auto)]
+
+mod described;
+#[cfg(test)]
+mod edits;
+mod names;
+mod numbers;
+mod reader;
+mod refused;
+mod row_rules;
+mod rows;
+#[cfg(test)]
+mod tests;
+#[cfg(test)]
+mod texts;
+mod told;
+mod transfers;
+
+pub use reader::read_description;

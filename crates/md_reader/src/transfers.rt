@@ -1,0 +1,237 @@
+//! Whether the transfer of a row without modes is good.
+
+ghost use Rattle.std.specs.Prelude.{◌≡◌, ◌↔◌, ◌≤◌, true, false, IsTrue, All, AllPairs, count_by, flat_map, nat_le};
+ghost use Rattle.std.specs.List.{list_any};
+ghost use Rattle.rtl_tree.specs.Trees.{tree_of};
+ghost use Rattle.rtl_tree.specs.Moves.{goal_of};
+ghost use Rattle.rtl_tree.specs.WellFormed.{compares_for_flag, free_of_both, is_shallow, is_store, IsPlaced, jumps_by_counter, reads_no_output, same_goal_cell, takes_for_register, tests_flags, depth};
+ghost use Rattle.md_text.specs.Rules.{is_temporary, cells_in, cells_of_goal, cells_of_move, HasGoodTransfer};
+ghost use Rattle.md_text.specs.Expansion.{Expanded as Row};
+ghost use Rattle.md_expand.specs.Expanded.{IsExpanded};
+ghost use Rattle.md_reader.specs.Goods.{filled_apart, same_place, AreGood, IsGood};
+
+use md_expand::{Expanded, Filled};
+use rtl_tree::{Assign, Cell, Construct, Expr, Place, are_flags_tested, is_free, is_free_below, is_root, is_same};
+
+/// The greatest depth of a tree in a well-formed transfer; a leaf has depth 1.
+const GREATEST_DEPTH: u32 = 32;
+
+/// The most assignments of a transfer.
+const MOST_ASSIGNMENTS: usize = 6;
+
+// Whether a tree is at most so deep. The recursion is never deeper than `limit`.
+fn is_within(tree: &Expr, limit: u32) -> bool
+    ensures { result ≡ nat_le (depth (tree_of tree.now)) limit }
+{
+    if limit == 0 {
+        return false;
+    }
+    match tree {
+        Expr::Mem(_, a) | Expr::Un(_, a) => is_within(a, limit - 1),
+        Expr::Bin(_, a, b) => is_within(a, limit - 1) && is_within(b, limit - 1),
+        _ => true,
+    }
+}
+
+fn has_depth(a: &Assign) -> bool
+    ensures { result ≡ is_shallow a.now.to a.now.value }
+{
+    let place = match &a.to {
+        Place::Cell(_) => true,
+        Place::Mem(_, at) => is_within(at, GREATEST_DEPTH - 1),
+    };
+    place && is_within(&a.value, GREATEST_DEPTH)
+}
+
+fn lacks(a: &Assign, construct: Construct) -> bool
+    ensures { result ≡ free_of_both construct a.now.to a.now.value }
+{
+    match &a.to {
+        Place::Cell(_) => is_free(&a.value, construct),
+        Place::Mem(_, at) => is_free(at, construct) && is_free(&a.value, construct),
+    }
+}
+
+fn has_pairs_for_flags(a: &Assign) -> bool
+    ensures { result ≡ compares_for_flag a.now.to a.now.value }
+{
+    match &a.to {
+        Place::Cell(Cell::Flag(_)) => {
+            is_root(&a.value, Construct::Compared) && is_free_below(&a.value, Construct::Compared)
+        }
+        _ => lacks(a, Construct::Compared),
+    }
+}
+
+fn has_tests_of_flags(a: &Assign) -> bool
+    ensures { result ≡ tests_flags a.now.to a.now.value }
+{
+    match &a.to {
+        Place::Cell(_) => are_flags_tested(&a.value),
+        Place::Mem(_, at) => are_flags_tested(at) && are_flags_tested(&a.value),
+    }
+}
+
+fn has_jumps_by_counter(a: &Assign) -> bool
+    ensures { result ≡ jumps_by_counter a.now.to a.now.value }
+{
+    match &a.to {
+        Place::Cell(Cell::Pc) => is_free_below(&a.value, Construct::Jump),
+        _ => lacks(a, Construct::Jump),
+    }
+}
+
+fn has_input_for_registers(a: &Assign) -> bool
+    ensures { result ≡ takes_for_register a.now.to a.now.value }
+{
+    match &a.to {
+        Place::Cell(Cell::Input) => false,
+        Place::Cell(Cell::Hard(_) | Cell::Temp(_) | Cell::Hole(_)) => {
+            is_free_below(&a.value, Construct::Taken)
+        }
+        _ => lacks(a, Construct::Taken),
+    }
+}
+
+fn has_no_output_read(a: &Assign) -> bool
+    ensures { result ≡ reads_no_output a.now.to a.now.value }
+{
+    lacks(a, Construct::Written)
+}
+
+// Whether each part of one assignment stands where it may.
+fn is_placed(a: &Assign) -> bool
+    ensures { IsTrue result ↔ IsPlaced a.now }
+{
+    has_depth(a)
+        && has_pairs_for_flags(a)
+        && has_tests_of_flags(a)
+        && has_jumps_by_counter(a)
+        && has_input_for_registers(a)
+        && has_no_output_read(a)
+}
+
+fn are_placed(list: &[Filled]) -> bool
+    ensures { IsTrue result ↔ All (λ f. IsPlaced f.assign) list.now }
+{
+    list.iter().all(|filled| is_placed(&filled.assign))
+}
+
+fn is_to_memory(a: &Assign) -> bool
+    ensures { result ≡ is_store a.now.to }
+{
+    matches!(a.to, Place::Mem(_, _))
+}
+
+fn has_one_store(list: &[Filled]) -> bool
+    ensures { IsTrue result ↔ (count_by (λ f. is_store f.assign.to) list.now ≤ 1) }
+{
+    list.iter().filter(|filled| is_to_memory(&filled.assign)).count() <= 1
+}
+
+fn is_to_same_cell(a: &Assign, b: &Assign) -> bool
+    ensures { result ≡ same_goal_cell a.now.to b.now.to }
+{
+    match (&a.to, &b.to) {
+        (Place::Cell(c), Place::Cell(d)) => is_same(*c, *d),
+        _ => false,
+    }
+}
+
+fn is_to_same_place(a: &Filled, b: &Filled) -> bool
+    ensures { result ≡ same_place a.now.register b.now.register (same_goal_cell a.now.assign.to b.now.assign.to) }
+{
+    match (a.register, b.register) {
+        (Some(m), Some(n)) => m == n,
+        _ => is_to_same_cell(&a.assign, &b.assign),
+    }
+}
+
+fn is_apart(a: &Filled, b: &Filled) -> bool
+    ensures { result ≡ filled_apart a.now b.now }
+{
+    let both_take = is_root(&a.assign.value, Construct::Taken)
+        && is_root(&b.assign.value, Construct::Taken);
+    !is_to_same_place(a, b) && !both_take
+}
+
+fn is_apart_from(a: &Filled, list: &[Filled]) -> bool
+    ensures { IsTrue result ↔ All (λ g. filled_apart a.now g ≡ true) list.now }
+{
+    list.iter().all(|b| is_apart(a, b))
+}
+
+// Whether no two assignments set one cell.
+fn is_once(list: &[Filled]) -> bool
+    ensures { IsTrue result ↔ AllPairs (λ f g. filled_apart f g ≡ true) list.now }
+{
+    match list {
+        [] => true,
+        [first, rest @ ..] => is_apart_from(first, rest) && is_once(rest),
+    }
+}
+
+fn is_temporary(cell: Cell) -> bool
+    ensures { result ≡ is_temporary cell }
+{
+    matches!(cell, Cell::Temp(_))
+}
+
+fn has_temporary(tree: &Expr) -> bool
+    ensures { result ≡ list_any is_temporary (cells_in (tree_of tree.now)) }
+{
+    match tree {
+        Expr::Cell(cell) => is_temporary(*cell),
+        Expr::Mem(_, a) | Expr::Un(_, a) => has_temporary(a),
+        Expr::Bin(_, a, b) => has_temporary(a) || has_temporary(b),
+        _ => false,
+    }
+}
+
+fn is_for_temporary(place: &Place) -> bool
+    ensures { result ≡ list_any is_temporary (cells_of_goal (goal_of place.now)) }
+{
+    match place {
+        Place::Cell(cell) => is_temporary(*cell),
+        Place::Mem(_, address) => has_temporary(address),
+    }
+}
+
+fn uses_temporary(a: &Assign) -> bool
+    ensures { result ≡ list_any is_temporary (cells_of_move a.now) }
+{
+    is_for_temporary(&a.to) || has_temporary(&a.value)
+}
+
+fn use_temporaries(list: &[Filled]) -> bool
+    ensures { result ≡ list_any is_temporary (flat_map (λ f. cells_of_move f.assign) list.now) }
+{
+    list.iter().any(|filled| uses_temporary(&filled.assign))
+}
+
+fn are_good(list: &[Filled]) -> bool
+    ensures { IsTrue result ↔ AreGood list.now }
+{
+    !list.is_empty()
+        && list.len() <= MOST_ASSIGNMENTS
+        && are_placed(list)
+        && is_once(list)
+        && has_one_store(list)
+        && !use_temporaries(list)
+}
+
+fn is_good(transfer: &Option<Vec<Filled>>) -> bool
+    ensures { IsTrue result ↔ IsGood transfer.now }
+{
+    match transfer {
+        Some(list) => are_good(list),
+        None => false,
+    }
+}
+
+/// Whether a row has places for its goals, a well-formed transfer and no temporary in it.
+pub fn has_good_transfer(row: &Expanded) -> bool
+    ensures { (r : Row) → IsExpanded r row.now → IsTrue result ↔ HasGoodTransfer r }
+{
+    is_good(&row.transfer)
+}

@@ -1,0 +1,189 @@
+//! What is accepted and what is refused, as worked out by hand.
+
+use crate::duo_lines::{bytes, forms, headings, names_again, ranges, reserved_names, uses, versions};
+use crate::duo_rows::{counts, holes, modes, overlaps, registers, roles, sizes, transfers};
+use crate::duo_shapes::shapes;
+use crate::machines::{duo, tri};
+use crate::tri_edits::{ranges as tri_ranges, shapes as tri_shapes};
+use crate::{Edit, Verdict, edited, verdict};
+use rtl_tree::NoMemory;
+use shipped::{Shipped, Shipped::Mips, Shipped::Pdp11};
+use std::alloc::Global;
+use std::test::Fail;
+use vp_io::Reason;
+
+// Whether the text is accepted with this line.
+fn is_accepted(alloc: Global, text: &[u8], line: &[u8]) -> Result<bool, NoMemory> {
+    match verdict(alloc, text)? {
+        Verdict::Accepted(told) => Ok(told.as_slice() == line),
+        _ => Ok(false),
+    }
+}
+
+// Whether the text is refused for this reason.
+fn is_refused(alloc: Global, text: &[u8], line: u32, rule: u8, detail: u32) -> Result<bool, NoMemory> {
+    let reason = Reason { line, column: 1, rule, detail };
+    match verdict(alloc, text)? {
+        Verdict::Refused(told) => Ok(told == reason),
+        _ => Ok(false),
+    }
+}
+
+#[test]
+fn machines_are_accepted(rt: HostRuntime) -> Result<(), Fail> {
+    let alloc = rt.alloc();
+    assert!(rt; is_accepted(alloc, duo(), b"accepted duo word 16 rows 36\n")?);
+    assert!(rt; is_accepted(alloc, tri(), b"accepted tri word 32 rows 37\n")?);
+    assert!(rt; is_accepted(alloc, Pdp11.text(), b"accepted pdp11 word 16 rows 206\n")?);
+    assert!(rt; is_accepted(alloc, Mips.text(), b"accepted mips word 32 rows 72\n")?);
+    Ok(())
+}
+
+#[test]
+fn the_pdp11_with_another_row(rt: HostRuntime) -> Result<(), Fail> {
+    let alloc = rt.alloc();
+    let sob = b"row sob <d:r>,<l:label> | <d> = (<d> + -1); PC = (((<d> + -1) ne 0) -> <l>)\n";
+    let counted = edited(alloc, Pdp11.text(), 71, 0, sob)?;
+    assert!(rt; is_accepted(alloc, &counted, b"accepted pdp11 word 16 rows 207\n")?);
+    let again = edited(alloc, Pdp11.text(), 71, 0, b"row mov #<n:0..3>,<d:r> | <d> = <n>\n")?;
+    assert!(rt; is_refused(alloc, &again, 71, 15, 45)?);
+    Ok(())
+}
+
+#[test]
+fn the_pdp11_with_less(rt: HostRuntime) -> Result<(), Fail> {
+    let alloc = rt.alloc();
+    let without_bic = edited(alloc, Pdp11.text(), 50, 1, b"")?;
+    assert!(rt; is_refused(alloc, &without_bic, 69, 17, 18)?);
+    let without_both = edited(alloc, &without_bic, 43, 1, b"")?;
+    assert!(rt; is_refused(alloc, &without_both, 68, 17, 17)?);
+    let text = Pdp11.text();
+    assert!(rt; is_refused(alloc, &text[..text.len() - 1], 70, 1, 0)?);
+    assert!(rt; is_refused(alloc, b"", 1, 2, 0)?);
+    Ok(())
+}
+
+// The first of these edits of a machine that isn't told by its rule, at its line and with its detail.
+fn first_untold(alloc: Global, machine: &[u8], rule: u8, edits: &[Edit]) -> Result<Option<Edit>, NoMemory> {
+    for (first, count, new, line, detail) in edits {
+        let text = edited(alloc, machine, *first, *count, new)?;
+        if !is_refused(alloc, &text, *line, rule, *detail)? {
+            return Ok(Some((*first, *count, *new, *line, *detail)));
+        }
+    }
+    Ok(None)
+}
+
+#[test]
+fn bytes_of_the_duo_are_told(rt: HostRuntime) -> Result<(), Fail> {
+    assert_eq!(rt; first_untold(rt.alloc(), duo(), 1, &bytes())?, None);
+    Ok(())
+}
+
+#[test]
+fn versions_of_the_duo_are_told(rt: HostRuntime) -> Result<(), Fail> {
+    assert_eq!(rt; first_untold(rt.alloc(), duo(), 2, &versions())?, None);
+    Ok(())
+}
+
+#[test]
+fn forms_of_the_duo_are_told(rt: HostRuntime) -> Result<(), Fail> {
+    assert_eq!(rt; first_untold(rt.alloc(), duo(), 3, &forms())?, None);
+    Ok(())
+}
+
+#[test]
+fn headings_of_the_duo_are_told(rt: HostRuntime) -> Result<(), Fail> {
+    assert_eq!(rt; first_untold(rt.alloc(), duo(), 4, &headings())?, None);
+    Ok(())
+}
+
+#[test]
+fn ranges_of_the_duo_are_told(rt: HostRuntime) -> Result<(), Fail> {
+    assert_eq!(rt; first_untold(rt.alloc(), duo(), 5, &ranges())?, None);
+    Ok(())
+}
+
+#[test]
+fn names_again_of_the_duo_are_told(rt: HostRuntime) -> Result<(), Fail> {
+    assert_eq!(rt; first_untold(rt.alloc(), duo(), 6, &names_again())?, None);
+    Ok(())
+}
+
+#[test]
+fn uses_of_the_duo_are_told(rt: HostRuntime) -> Result<(), Fail> {
+    assert_eq!(rt; first_untold(rt.alloc(), duo(), 7, &uses())?, None);
+    Ok(())
+}
+
+#[test]
+fn reserved_names_of_the_duo_are_told(rt: HostRuntime) -> Result<(), Fail> {
+    assert_eq!(rt; first_untold(rt.alloc(), duo(), 8, &reserved_names())?, None);
+    Ok(())
+}
+
+#[test]
+fn roles_of_the_duo_are_told(rt: HostRuntime) -> Result<(), Fail> {
+    assert_eq!(rt; first_untold(rt.alloc(), duo(), 9, &roles())?, None);
+    Ok(())
+}
+
+#[test]
+fn transfers_of_the_duo_are_told(rt: HostRuntime) -> Result<(), Fail> {
+    assert_eq!(rt; first_untold(rt.alloc(), duo(), 10, &transfers())?, None);
+    Ok(())
+}
+
+#[test]
+fn holes_of_the_duo_are_told(rt: HostRuntime) -> Result<(), Fail> {
+    assert_eq!(rt; first_untold(rt.alloc(), duo(), 11, &holes())?, None);
+    Ok(())
+}
+
+#[test]
+fn modes_of_the_duo_are_told(rt: HostRuntime) -> Result<(), Fail> {
+    assert_eq!(rt; first_untold(rt.alloc(), duo(), 12, &modes())?, None);
+    Ok(())
+}
+
+#[test]
+fn sizes_of_the_duo_are_told(rt: HostRuntime) -> Result<(), Fail> {
+    assert_eq!(rt; first_untold(rt.alloc(), duo(), 13, &sizes())?, None);
+    Ok(())
+}
+
+#[test]
+fn counts_of_the_duo_are_told(rt: HostRuntime) -> Result<(), Fail> {
+    assert_eq!(rt; first_untold(rt.alloc(), duo(), 14, &counts())?, None);
+    Ok(())
+}
+
+#[test]
+fn overlaps_of_the_duo_are_told(rt: HostRuntime) -> Result<(), Fail> {
+    assert_eq!(rt; first_untold(rt.alloc(), duo(), 15, &overlaps())?, None);
+    Ok(())
+}
+
+#[test]
+fn registers_of_the_duo_are_told(rt: HostRuntime) -> Result<(), Fail> {
+    assert_eq!(rt; first_untold(rt.alloc(), duo(), 16, &registers())?, None);
+    Ok(())
+}
+
+#[test]
+fn shapes_of_the_duo_are_told(rt: HostRuntime) -> Result<(), Fail> {
+    assert_eq!(rt; first_untold(rt.alloc(), duo(), 17, &shapes())?, None);
+    Ok(())
+}
+
+#[test]
+fn ranges_of_the_tri_are_told(rt: HostRuntime) -> Result<(), Fail> {
+    assert_eq!(rt; first_untold(rt.alloc(), tri(), 5, &tri_ranges())?, None);
+    Ok(())
+}
+
+#[test]
+fn shapes_of_the_tri_are_told(rt: HostRuntime) -> Result<(), Fail> {
+    assert_eq!(rt; first_untold(rt.alloc(), tri(), 17, &tri_shapes())?, None);
+    Ok(())
+}

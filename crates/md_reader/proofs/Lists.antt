@@ -13,9 +13,9 @@ use Rattle.md_expand.specs.declared.expanded.Expanded.{Expanded}
 use Rattle.md_expand.specs.Expanded.{AllExpanded}
 use Rattle.md_rules.specs.Least.{IsLeast}
 use Rattle.md_rules.specs.Broken.{BreaksBy}
-use Rattle.md_reader.specs.declared.row_rules.RowRule.{RowRule}
-use Rattle.md_reader.specs.declared.row_rules.RowRule.TheVariants.{BadTransfer, TooLarge}
-use Rattle.md_reader.specs.RowRules.{HasBrokenAmong, rule_named}
+use Rattle.md_row_rules.specs.declared.row_rules.RowRule.{RowRule}
+use Rattle.md_row_rules.specs.declared.row_rules.RowRule.TheVariants.{BadTransfer, TooLarge}
+use Rattle.md_row_rules.specs.RowRules.{HasBrokenAmong, rule_named}
 
 all_take : (n : ℕ) (rs : List Row) (es : List Expanded) → AllExpanded rs es → AllExpanded (take n rs) (take n es)
 all_take zero rs es a = tt

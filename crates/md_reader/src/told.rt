@@ -9,11 +9,11 @@ ghost use Rattle.md_forms.specs.SeenRules.{rule_of};
 ghost use Rattle.md_rules.specs.Least.{IsLeast, IsNumbered};
 ghost use Rattle.md_rules.specs.Broken.{BreaksBy, IsFirst};
 ghost use Rattle.md_expand.specs.Expanded.{AllExpanded};
-ghost use Rattle.md_reader.specs.RowRules.{rule_named};
+ghost use Rattle.md_row_rules.specs.RowRules.{rule_named};
 
-use crate::row_rules::{RowRule, least_row_line};
 use md_expand::{Expanded, MOST_ROWS, passing_line};
 use md_forms::{Declared, Rule, Told};
+use md_row_rules::{RowRule, least_row_line};
 use md_rules::told_of_holes;
 use rtl_tree::NoMemory;
 use std::alloc::Global;

@@ -8,7 +8,7 @@ ghost use Rattle.rtl_tree.specs.WellFormed.{compares_for_flag, free_of_both, is_
 ghost use Rattle.md_text.specs.Rules.{is_temporary, cells_in, cells_of_goal, cells_of_move, HasGoodTransfer};
 ghost use Rattle.md_text.specs.Expansion.{Expanded as Row};
 ghost use Rattle.md_expand.specs.Expanded.{IsExpanded};
-ghost use Rattle.md_reader.specs.Goods.{filled_apart, same_place, AreGood, IsGood};
+ghost use Rattle.md_row_rules.specs.Goods.{filled_apart, same_place, AreGood, IsGood};
 
 use md_expand::{Expanded, Filled};
 use rtl_tree::{Assign, Cell, Construct, Expr, Place, are_flags_tested, is_free, is_free_below, is_root, is_same};

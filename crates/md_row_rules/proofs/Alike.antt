@@ -25,7 +25,7 @@ use Rattle.md_expand.specs.Filled.{IsLikeGoal, same_goal, registers as both_regi
 use Rattle.md_expand.specs.Expanded.{IsExpanded}
 use Rattle.md_expand.specs.declared.moves.Filled.{Filled}
 use Rattle.md_expand.specs.declared.expanded.Expanded.{Expanded}
-use Rattle.md_reader.specs.Goods.{same_place, filled_apart, AreGood, IsGood}
+use Rattle.md_row_rules.specs.Goods.{same_place, filled_apart, AreGood, IsGood}
 
 same_depth : (a b : Tree) → IsLike a b → depth a ≡ depth b
 same_depth a b (equal t) = refl

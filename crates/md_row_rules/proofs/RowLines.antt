@@ -8,8 +8,8 @@ use Rattle.md_text.specs.Expansion.{Expanded as Row}
 use Rattle.md_expand.specs.declared.expanded.Expanded.{Expanded}
 use Rattle.md_expand.specs.Expanded.{IsExpanded, AllExpanded}
 use Rattle.md_rules.specs.Least.{IsLeast}
-use Rattle.md_reader.specs.declared.row_rules.RowRule.{RowRule}
-use Rattle.md_reader.specs.RowRules.{IsBroken, HasBrokenAmong, sooner}
+use Rattle.md_row_rules.specs.declared.row_rules.RowRule.{RowRule}
+use Rattle.md_row_rules.specs.RowRules.{IsBroken, HasBrokenAmong, sooner}
 
 -- the row that comes next, with the row of the program that stands for it
 record Next (rs : List Row) (i : ℕ) (e : Expanded) : Type 0 where

@@ -7,6 +7,7 @@ use Rattle.std.specs.Option.{option_map}
 use Rattle.std.specs.declared.option.Option.{Option}
 use Rattle.std.specs.declared.option.Option.TheVariants.{Some, None}
 use Rattle.std.proofs.lemmas.List.Folds.{list_any-append}
+use Rattle.std.proofs.lemmas.List.Sums.{sum_by-cons}
 use Rattle.rtl_tree.specs.declared.cells.Cell.{Cell}
 use Rattle.rtl_tree.specs.declared.cells.Cell.TheVariants.{Hard, Temp, Flag, Pc, Input, Output, Halt, Hole}
 use Rattle.rtl_tree.specs.declared.expressions.UnOp.{UnOp}
@@ -25,7 +26,7 @@ use Rattle.md_expand.specs.Filled.{IsLikeGoal, same_goal, registers as both_regi
 use Rattle.md_expand.specs.Expanded.{IsExpanded}
 use Rattle.md_expand.specs.declared.moves.Filled.{Filled}
 use Rattle.md_expand.specs.declared.expanded.Expanded.{Expanded}
-use Rattle.md_row_rules.specs.Goods.{same_place, filled_apart, AreGood, IsGood}
+use Rattle.md_row_rules.specs.Goods.{same_place, filled_apart, uses_temporary, AreGood, IsGood}
 
 same_depth : (a b : Tree) → IsLike a b → depth a ≡ depth b
 same_depth a b (equal t) = refl
@@ -234,128 +235,44 @@ placed_back m n g v p = record {
   output = same_free_both Written m.to n.to m.value n.value g v ∙ p.output;
 }
 
+-- a place that is no register hole is told apart from both of two alike places, or from none
+same_by_other : (c : Cell) (h l : Goal) → IsLikeGoal h l → hole_of_goal (ToCell c) ≡ None → same_goal_cell (ToCell c) l ≡ same_goal_cell (ToCell c) h
+same_by_other c h l (same_goal k) e = refl
+same_by_other c h l (stores w a b v) e = refl
+same_by_other (Hard k) h l (both_registers m n) e = refl
+same_by_other (Temp k) h l (both_registers m n) e = refl
+same_by_other (Flag k) h l (both_registers m n) e = refl
+same_by_other Pc h l (both_registers m n) e = refl
+same_by_other Input h l (both_registers m n) e = refl
+same_by_other Output h l (both_registers m n) e = refl
+same_by_other Halt h l (both_registers m n) e = refl
+same_by_other (Hole k) h l (both_registers m n) e = absurd (cc)
+
+same_by_hole : (m n : ℕ) (h l : Goal) → IsLikeGoal h l → same_place (Some m) (hole_of_goal h) (same_goal_cell (ToCell (Hole n)) l) ≡ same_goal_cell (ToCell (Hole m)) h
+same_by_hole m n h l (both_registers j k) = refl
+same_by_hole m n h l (stores w a b v) = refl
+same_by_hole m n h l (same_goal (ToMemory w a)) = refl
+same_by_hole m n h l (same_goal (ToCell (Hard k))) = refl
+same_by_hole m n h l (same_goal (ToCell (Temp k))) = refl
+same_by_hole m n h l (same_goal (ToCell (Flag k))) = refl
+same_by_hole m n h l (same_goal (ToCell Pc)) = refl
+same_by_hole m n h l (same_goal (ToCell Input)) = refl
+same_by_hole m n h l (same_goal (ToCell Output)) = refl
+same_by_hole m n h l (same_goal (ToCell Halt)) = refl
+same_by_hole m n h l (same_goal (ToCell (Hole k))) = refl
+
 same_places : (g h k l : Goal) → IsLikeGoal g k → IsLikeGoal h l → same_place (hole_of_goal g) (hole_of_goal h) (same_goal_cell k l) ≡ same_goal_cell g h
-same_places g h k l (same_goal (ToCell (Hard m))) (same_goal (ToCell (Hard n))) = refl
-same_places g h k l (same_goal (ToCell (Hard m))) (same_goal (ToCell (Temp n))) = refl
-same_places g h k l (same_goal (ToCell (Hard m))) (same_goal (ToCell (Flag n))) = refl
-same_places g h k l (same_goal (ToCell (Hard m))) (same_goal (ToCell Pc)) = refl
-same_places g h k l (same_goal (ToCell (Hard m))) (same_goal (ToCell Input)) = refl
-same_places g h k l (same_goal (ToCell (Hard m))) (same_goal (ToCell Output)) = refl
-same_places g h k l (same_goal (ToCell (Hard m))) (same_goal (ToCell Halt)) = refl
-same_places g h k l (same_goal (ToCell (Hard m))) (same_goal (ToCell (Hole n))) = refl
-same_places g h k l (same_goal (ToCell (Hard m))) (same_goal (ToMemory wn an)) = refl
-same_places g h k l (same_goal (ToCell (Hard m))) (both_registers n nx) = refl
-same_places g h k l (same_goal (ToCell (Hard m))) (stores wn an bn ln) = refl
-same_places g h k l (same_goal (ToCell (Temp m))) (same_goal (ToCell (Hard n))) = refl
-same_places g h k l (same_goal (ToCell (Temp m))) (same_goal (ToCell (Temp n))) = refl
-same_places g h k l (same_goal (ToCell (Temp m))) (same_goal (ToCell (Flag n))) = refl
-same_places g h k l (same_goal (ToCell (Temp m))) (same_goal (ToCell Pc)) = refl
-same_places g h k l (same_goal (ToCell (Temp m))) (same_goal (ToCell Input)) = refl
-same_places g h k l (same_goal (ToCell (Temp m))) (same_goal (ToCell Output)) = refl
-same_places g h k l (same_goal (ToCell (Temp m))) (same_goal (ToCell Halt)) = refl
-same_places g h k l (same_goal (ToCell (Temp m))) (same_goal (ToCell (Hole n))) = refl
-same_places g h k l (same_goal (ToCell (Temp m))) (same_goal (ToMemory wn an)) = refl
-same_places g h k l (same_goal (ToCell (Temp m))) (both_registers n nx) = refl
-same_places g h k l (same_goal (ToCell (Temp m))) (stores wn an bn ln) = refl
-same_places g h k l (same_goal (ToCell (Flag m))) (same_goal (ToCell (Hard n))) = refl
-same_places g h k l (same_goal (ToCell (Flag m))) (same_goal (ToCell (Temp n))) = refl
-same_places g h k l (same_goal (ToCell (Flag m))) (same_goal (ToCell (Flag n))) = refl
-same_places g h k l (same_goal (ToCell (Flag m))) (same_goal (ToCell Pc)) = refl
-same_places g h k l (same_goal (ToCell (Flag m))) (same_goal (ToCell Input)) = refl
-same_places g h k l (same_goal (ToCell (Flag m))) (same_goal (ToCell Output)) = refl
-same_places g h k l (same_goal (ToCell (Flag m))) (same_goal (ToCell Halt)) = refl
-same_places g h k l (same_goal (ToCell (Flag m))) (same_goal (ToCell (Hole n))) = refl
-same_places g h k l (same_goal (ToCell (Flag m))) (same_goal (ToMemory wn an)) = refl
-same_places g h k l (same_goal (ToCell (Flag m))) (both_registers n nx) = refl
-same_places g h k l (same_goal (ToCell (Flag m))) (stores wn an bn ln) = refl
-same_places g h k l (same_goal (ToCell Pc)) (same_goal (ToCell (Hard n))) = refl
-same_places g h k l (same_goal (ToCell Pc)) (same_goal (ToCell (Temp n))) = refl
-same_places g h k l (same_goal (ToCell Pc)) (same_goal (ToCell (Flag n))) = refl
-same_places g h k l (same_goal (ToCell Pc)) (same_goal (ToCell Pc)) = refl
-same_places g h k l (same_goal (ToCell Pc)) (same_goal (ToCell Input)) = refl
-same_places g h k l (same_goal (ToCell Pc)) (same_goal (ToCell Output)) = refl
-same_places g h k l (same_goal (ToCell Pc)) (same_goal (ToCell Halt)) = refl
-same_places g h k l (same_goal (ToCell Pc)) (same_goal (ToCell (Hole n))) = refl
-same_places g h k l (same_goal (ToCell Pc)) (same_goal (ToMemory wn an)) = refl
-same_places g h k l (same_goal (ToCell Pc)) (both_registers n nx) = refl
-same_places g h k l (same_goal (ToCell Pc)) (stores wn an bn ln) = refl
-same_places g h k l (same_goal (ToCell Input)) (same_goal (ToCell (Hard n))) = refl
-same_places g h k l (same_goal (ToCell Input)) (same_goal (ToCell (Temp n))) = refl
-same_places g h k l (same_goal (ToCell Input)) (same_goal (ToCell (Flag n))) = refl
-same_places g h k l (same_goal (ToCell Input)) (same_goal (ToCell Pc)) = refl
-same_places g h k l (same_goal (ToCell Input)) (same_goal (ToCell Input)) = refl
-same_places g h k l (same_goal (ToCell Input)) (same_goal (ToCell Output)) = refl
-same_places g h k l (same_goal (ToCell Input)) (same_goal (ToCell Halt)) = refl
-same_places g h k l (same_goal (ToCell Input)) (same_goal (ToCell (Hole n))) = refl
-same_places g h k l (same_goal (ToCell Input)) (same_goal (ToMemory wn an)) = refl
-same_places g h k l (same_goal (ToCell Input)) (both_registers n nx) = refl
-same_places g h k l (same_goal (ToCell Input)) (stores wn an bn ln) = refl
-same_places g h k l (same_goal (ToCell Output)) (same_goal (ToCell (Hard n))) = refl
-same_places g h k l (same_goal (ToCell Output)) (same_goal (ToCell (Temp n))) = refl
-same_places g h k l (same_goal (ToCell Output)) (same_goal (ToCell (Flag n))) = refl
-same_places g h k l (same_goal (ToCell Output)) (same_goal (ToCell Pc)) = refl
-same_places g h k l (same_goal (ToCell Output)) (same_goal (ToCell Input)) = refl
-same_places g h k l (same_goal (ToCell Output)) (same_goal (ToCell Output)) = refl
-same_places g h k l (same_goal (ToCell Output)) (same_goal (ToCell Halt)) = refl
-same_places g h k l (same_goal (ToCell Output)) (same_goal (ToCell (Hole n))) = refl
-same_places g h k l (same_goal (ToCell Output)) (same_goal (ToMemory wn an)) = refl
-same_places g h k l (same_goal (ToCell Output)) (both_registers n nx) = refl
-same_places g h k l (same_goal (ToCell Output)) (stores wn an bn ln) = refl
-same_places g h k l (same_goal (ToCell Halt)) (same_goal (ToCell (Hard n))) = refl
-same_places g h k l (same_goal (ToCell Halt)) (same_goal (ToCell (Temp n))) = refl
-same_places g h k l (same_goal (ToCell Halt)) (same_goal (ToCell (Flag n))) = refl
-same_places g h k l (same_goal (ToCell Halt)) (same_goal (ToCell Pc)) = refl
-same_places g h k l (same_goal (ToCell Halt)) (same_goal (ToCell Input)) = refl
-same_places g h k l (same_goal (ToCell Halt)) (same_goal (ToCell Output)) = refl
-same_places g h k l (same_goal (ToCell Halt)) (same_goal (ToCell Halt)) = refl
-same_places g h k l (same_goal (ToCell Halt)) (same_goal (ToCell (Hole n))) = refl
-same_places g h k l (same_goal (ToCell Halt)) (same_goal (ToMemory wn an)) = refl
-same_places g h k l (same_goal (ToCell Halt)) (both_registers n nx) = refl
-same_places g h k l (same_goal (ToCell Halt)) (stores wn an bn ln) = refl
-same_places g h k l (same_goal (ToCell (Hole m))) (same_goal (ToCell (Hard n))) = refl
-same_places g h k l (same_goal (ToCell (Hole m))) (same_goal (ToCell (Temp n))) = refl
-same_places g h k l (same_goal (ToCell (Hole m))) (same_goal (ToCell (Flag n))) = refl
-same_places g h k l (same_goal (ToCell (Hole m))) (same_goal (ToCell Pc)) = refl
-same_places g h k l (same_goal (ToCell (Hole m))) (same_goal (ToCell Input)) = refl
-same_places g h k l (same_goal (ToCell (Hole m))) (same_goal (ToCell Output)) = refl
-same_places g h k l (same_goal (ToCell (Hole m))) (same_goal (ToCell Halt)) = refl
-same_places g h k l (same_goal (ToCell (Hole m))) (same_goal (ToCell (Hole n))) = refl
-same_places g h k l (same_goal (ToCell (Hole m))) (same_goal (ToMemory wn an)) = refl
-same_places g h k l (same_goal (ToCell (Hole m))) (both_registers n nx) = refl
-same_places g h k l (same_goal (ToCell (Hole m))) (stores wn an bn ln) = refl
-same_places g h k l (same_goal (ToMemory wm am)) (same_goal (ToCell (Hard n))) = refl
-same_places g h k l (same_goal (ToMemory wm am)) (same_goal (ToCell (Temp n))) = refl
-same_places g h k l (same_goal (ToMemory wm am)) (same_goal (ToCell (Flag n))) = refl
-same_places g h k l (same_goal (ToMemory wm am)) (same_goal (ToCell Pc)) = refl
-same_places g h k l (same_goal (ToMemory wm am)) (same_goal (ToCell Input)) = refl
-same_places g h k l (same_goal (ToMemory wm am)) (same_goal (ToCell Output)) = refl
-same_places g h k l (same_goal (ToMemory wm am)) (same_goal (ToCell Halt)) = refl
-same_places g h k l (same_goal (ToMemory wm am)) (same_goal (ToCell (Hole n))) = refl
-same_places g h k l (same_goal (ToMemory wm am)) (same_goal (ToMemory wn an)) = refl
-same_places g h k l (same_goal (ToMemory wm am)) (both_registers n nx) = refl
-same_places g h k l (same_goal (ToMemory wm am)) (stores wn an bn ln) = refl
-same_places g h k l (both_registers m mx) (same_goal (ToCell (Hard n))) = refl
-same_places g h k l (both_registers m mx) (same_goal (ToCell (Temp n))) = refl
-same_places g h k l (both_registers m mx) (same_goal (ToCell (Flag n))) = refl
-same_places g h k l (both_registers m mx) (same_goal (ToCell Pc)) = refl
-same_places g h k l (both_registers m mx) (same_goal (ToCell Input)) = refl
-same_places g h k l (both_registers m mx) (same_goal (ToCell Output)) = refl
-same_places g h k l (both_registers m mx) (same_goal (ToCell Halt)) = refl
-same_places g h k l (both_registers m mx) (same_goal (ToCell (Hole n))) = refl
-same_places g h k l (both_registers m mx) (same_goal (ToMemory wn an)) = refl
-same_places g h k l (both_registers m mx) (both_registers n nx) = refl
-same_places g h k l (both_registers m mx) (stores wn an bn ln) = refl
-same_places g h k l (stores wm am bm lm) (same_goal (ToCell (Hard n))) = refl
-same_places g h k l (stores wm am bm lm) (same_goal (ToCell (Temp n))) = refl
-same_places g h k l (stores wm am bm lm) (same_goal (ToCell (Flag n))) = refl
-same_places g h k l (stores wm am bm lm) (same_goal (ToCell Pc)) = refl
-same_places g h k l (stores wm am bm lm) (same_goal (ToCell Input)) = refl
-same_places g h k l (stores wm am bm lm) (same_goal (ToCell Output)) = refl
-same_places g h k l (stores wm am bm lm) (same_goal (ToCell Halt)) = refl
-same_places g h k l (stores wm am bm lm) (same_goal (ToCell (Hole n))) = refl
-same_places g h k l (stores wm am bm lm) (same_goal (ToMemory wn an)) = refl
-same_places g h k l (stores wm am bm lm) (both_registers n nx) = refl
-same_places g h k l (stores wm am bm lm) (stores wn an bn ln) = refl
+same_places g h k l (both_registers m n) q = same_by_hole m n h l q
+same_places g h k l (stores w a b v) q = refl
+same_places g h k l (same_goal (ToMemory w a)) q = refl
+same_places g h k l (same_goal (ToCell (Hole n))) q = same_by_hole n n h l q
+same_places g h k l (same_goal (ToCell (Hard n))) q = same_by_other (Hard n) h l q refl
+same_places g h k l (same_goal (ToCell (Temp n))) q = same_by_other (Temp n) h l q refl
+same_places g h k l (same_goal (ToCell (Flag n))) q = same_by_other (Flag n) h l q refl
+same_places g h k l (same_goal (ToCell Pc)) q = same_by_other Pc h l q refl
+same_places g h k l (same_goal (ToCell Input)) q = same_by_other Input h l q refl
+same_places g h k l (same_goal (ToCell Output)) q = same_by_other Output h l q refl
+same_places g h k l (same_goal (ToCell Halt)) q = same_by_other Halt h l q refl
 
 same_apart : (few : Type 0) (m n : Move) (f g : Filled) → IsFilled few m f → IsFilled few n g → filled_apart f g ≡ set_apart m n
 same_apart few m n f g p q =
@@ -406,19 +323,20 @@ same_store_count few [] [] a = refl
 same_store_count few [] (f ∷ fs) a = absurd a
 same_store_count few (m ∷ ms) [] a = absurd a
 same_store_count few (m ∷ ms) (f ∷ fs) a =
-    ap (λ b. cond b 1 0 + count_by (λ n. is_store n.to) ms) (same_store m.to f.assign.to a.0.like_to)
+    sum_by-cons (λ (n : Move). cond (is_store n.to) 1 0) m ms
+    ∙ ap (λ b. cond b 1 0 + count_by (λ n. is_store n.to) ms) (same_store m.to f.assign.to a.0.like_to)
     ∙ ap (λ n. cond (is_store f.assign.to) 1 0 + n) (same_store_count few ms fs a.1)
+    ∙ sym (sum_by-cons (λ (g : Filled). cond (is_store g.assign.to) 1 0) f fs)
 
 same_all_temporaries : (few : Type 0) (ms : List Move) (fs : List Filled) → AllFilled few ms fs
-    → list_any is_temporary (flat_map cells_of_move ms) ≡ list_any is_temporary (flat_map (λ f. cells_of_move f.assign) fs)
+    → list_any is_temporary (flat_map cells_of_move ms) ≡ list_any uses_temporary fs
 same_all_temporaries few [] [] a = refl
 same_all_temporaries few [] (f ∷ fs) a = absurd a
 same_all_temporaries few (m ∷ ms) [] a = absurd a
 same_all_temporaries few (m ∷ ms) (f ∷ fs) a =
     list_any-append is_temporary (cells_of_move m) (flat_map cells_of_move ms)
-    ∙ either (list_any is_temporary (cells_of_move m)) (list_any is_temporary (flat_map cells_of_move ms)) (list_any is_temporary (cells_of_move f.assign)) (list_any is_temporary (flat_map (λ g. cells_of_move g.assign) fs))
+    ∙ either (list_any is_temporary (cells_of_move m)) (list_any is_temporary (flat_map cells_of_move ms)) (uses_temporary f) (list_any uses_temporary fs)
       (same_move_temporaries m f.assign a.0.like_to a.0.like_value) (same_all_temporaries few ms fs a.1)
-    ∙ sym (list_any-append is_temporary (cells_of_move f.assign) (flat_map (λ g. cells_of_move g.assign) fs))
 
 pub well_by_good : (few : Type 0) (ms : List Move) (fs : List Filled) → AllFilled few ms fs → AreGood fs → IsWellFormed ms
 well_by_good few ms fs a g =

@@ -26,6 +26,14 @@ next_row (r ∷ rs) (x ∷ es) (suc i) e lt at a =
     let n = next_row rs es i e (omega (arith, lt)) at a.1 in
     record { row = n.row; split = ap (λ ys. r ∷ ys) n.split; expanded = n.expanded }
 
+pub all_taken : (rs : List Row) (es : List Expanded) (i : ℕ) → length es ≤ i → AllExpanded rs es → take i rs ≡ rs
+all_taken [] [] zero l a = refl
+all_taken [] [] (suc i) l a = refl
+all_taken [] (x ∷ es) i l a = absurd a
+all_taken (r ∷ rs) [] i l a = absurd a
+all_taken (r ∷ rs) (x ∷ es) zero l a = absurd (omega (arith, l))
+all_taken (r ∷ rs) (x ∷ es) (suc i) l a = ap (λ ys. r ∷ ys) (all_taken rs es i (omega (arith, l)) a.1)
+
 alone : (r s : Row) → Contains (r ∷ []) s → r ≡ s
 alone r s (zero, lt, e) = e
 alone r s (suc k, lt, e) = absurd (omega (arith, lt))
@@ -92,7 +100,7 @@ pub one_broken_more :
     → IsLeast (HasBrokenAmong rule (take (i + 1) rs)) (Some (sooner least e.line))
 one_broken_more rule rs es i e least lt at a broken before =
     let n = next_row rs es i e lt at a in
-    let more : take (i + 1) rs ≡ take i rs ++ n.row ∷ [] = ap (λ k. take k rs) (omega arith) ∙ n.split in
+    let more : take (i + 1) rs ≡ take i rs ++ n.row ∷ [] = let next : i + 1 ≡ suc i = omega arith in ap (λ k. take k rs) next ∙ n.split in
     subst (λ xs. IsLeast (HasBrokenAmong rule xs) (Some (sooner least e.line))) (sym more)
     (least_with rule (take i rs) n.row e.line least n.expanded.line (broken n.row n.expanded) before)
 
@@ -102,5 +110,5 @@ pub one_whole_more :
     → IsLeast (HasBrokenAmong rule (take (i + 1) rs)) least
 one_whole_more rule rs es i e least lt at a whole before =
     let n = next_row rs es i e lt at a in
-    let more : take (i + 1) rs ≡ take i rs ++ n.row ∷ [] = ap (λ k. take k rs) (omega arith) ∙ n.split in
+    let more : take (i + 1) rs ≡ take i rs ++ n.row ∷ [] = let next : i + 1 ≡ suc i = omega arith in ap (λ k. take k rs) next ∙ n.split in
     subst (λ xs. IsLeast (HasBrokenAmong rule xs) least) (sym more) (least_without rule (take i rs) n.row least (whole n.row n.expanded) before)

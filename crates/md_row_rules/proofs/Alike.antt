@@ -154,7 +154,7 @@ same_temporaries a b (unaries o c d l) = same_temporaries c d l
 same_temporaries a b (binaries o c d e f l r) =
     list_any-append is_temporary (cells_in c) (cells_in d)
     ∙ either (list_any is_temporary (cells_in c)) (list_any is_temporary (cells_in d)) (list_any is_temporary (cells_in e)) (list_any is_temporary (cells_in f))
-      (same_temporaries c e l) (same_temporaries d f r)
+    (same_temporaries c e l) (same_temporaries d f r)
     ∙ sym (list_any-append is_temporary (cells_in e) (cells_in f))
 
 same_free_both : (k : Construct) (g h : Goal) (t u : Tree) → IsLikeGoal g h → IsLike t u → free_of_both k g t ≡ free_of_both k h u
@@ -277,14 +277,14 @@ same_places g h k l (same_goal (ToCell Halt)) q = same_by_other Halt h l q refl
 same_apart : (few : Type 0) (m n : Move) (f g : Filled) → IsFilled few m f → IsFilled few n g → filled_apart f g ≡ set_apart m n
 same_apart few m n f g p q =
     let places : same_place f.register g.register (same_goal_cell f.assign.to g.assign.to) ≡ same_goal_cell m.to n.to =
-        ap (λ x. same_place x g.register (same_goal_cell f.assign.to g.assign.to)) p.register
-        ∙ ap (λ x. same_place (hole_of_goal m.to) x (same_goal_cell f.assign.to g.assign.to)) q.register
-        ∙ same_places m.to n.to f.assign.to g.assign.to p.like_to q.like_to in
+    ap (λ x. same_place x g.register (same_goal_cell f.assign.to g.assign.to)) p.register
+    ∙ ap (λ x. same_place (hole_of_goal m.to) x (same_goal_cell f.assign.to g.assign.to)) q.register
+    ∙ same_places m.to n.to f.assign.to g.assign.to p.like_to q.like_to in
     both (not (same_place f.register g.register (same_goal_cell f.assign.to g.assign.to))) (not (is_construct Taken f.assign.value && is_construct Taken g.assign.value))
     (not (same_goal_cell m.to n.to)) (not (is_construct Taken m.value && is_construct Taken n.value))
     (ap not places)
     (ap not (both (is_construct Taken f.assign.value) (is_construct Taken g.assign.value) (is_construct Taken m.value) (is_construct Taken n.value)
-      (sym (same_construct Taken m.value f.assign.value p.like_value)) (sym (same_construct Taken n.value g.assign.value q.like_value))))
+    (sym (same_construct Taken m.value f.assign.value p.like_value)) (sym (same_construct Taken n.value g.assign.value q.like_value))))
 
 same_store : (g h : Goal) → IsLikeGoal g h → is_store g ≡ is_store h
 same_store g h (same_goal k) = refl
@@ -300,7 +300,7 @@ same_move_temporaries : (m n : Move) → IsLikeGoal m.to n.to → IsLike m.value
 same_move_temporaries m n g v =
     list_any-append is_temporary (cells_of_goal m.to) (cells_in m.value)
     ∙ either (list_any is_temporary (cells_of_goal m.to)) (list_any is_temporary (cells_in m.value)) (list_any is_temporary (cells_of_goal n.to)) (list_any is_temporary (cells_in n.value))
-      (same_goal_temporaries m.to n.to g) (same_temporaries m.value n.value v)
+    (same_goal_temporaries m.to n.to g) (same_temporaries m.value n.value v)
     ∙ sym (list_any-append is_temporary (cells_of_goal n.to) (cells_in n.value))
 
 as_long : (few : Type 0) (ms : List Move) (fs : List Filled) → AllFilled few ms fs → length ms ≡ length fs
@@ -336,7 +336,7 @@ same_all_temporaries few (m ∷ ms) [] a = absurd a
 same_all_temporaries few (m ∷ ms) (f ∷ fs) a =
     list_any-append is_temporary (cells_of_move m) (flat_map cells_of_move ms)
     ∙ either (list_any is_temporary (cells_of_move m)) (list_any is_temporary (flat_map cells_of_move ms)) (uses_temporary f) (list_any uses_temporary fs)
-      (same_move_temporaries m f.assign a.0.like_to a.0.like_value) (same_all_temporaries few ms fs a.1)
+    (same_move_temporaries m f.assign a.0.like_to a.0.like_value) (same_all_temporaries few ms fs a.1)
 
 pub well_by_good : (few : Type 0) (ms : List Move) (fs : List Filled) → AllFilled few ms fs → AreGood fs → IsWellFormed ms
 well_by_good few ms fs a g =
@@ -353,7 +353,7 @@ well_by_good few ms fs a g =
           let e : Filled = record { assign = d; register = None } in
           let inside : j < length fs = omega (arith, long, lt) in
           sym (same_apart few (slice_index_or ms i d) (slice_index_or ms j d) (slice_index_or fs i e) (slice_index_or fs j e)
-            (filled_at few ms fs i d e a (omega (arith, less, inside))) (filled_at few ms fs j d e a inside))
+          (filled_at few ms fs i d e a (omega (arith, less, inside))) (filled_at few ms fs j d e a inside))
           ∙ g.once i j e less inside;
       one_store = let same = same_store_count few ms fs a in omega (arith, same, g.one_store);
     }
@@ -370,7 +370,7 @@ good_by_well few ms fs a w t =
           placed_like (slice_index_or ms k e.assign) (slice_index_or fs k e).assign like.like_to like.like_value (w.placed k e.assign (omega (arith, long, lt)));
       once = λ i j e less lt.
           same_apart few (slice_index_or ms i e.assign) (slice_index_or ms j e.assign) (slice_index_or fs i e) (slice_index_or fs j e)
-            (filled_at few ms fs i e.assign e a (omega (arith, less, lt))) (filled_at few ms fs j e.assign e a lt)
+          (filled_at few ms fs i e.assign e a (omega (arith, less, lt))) (filled_at few ms fs j e.assign e a lt)
           ∙ w.once i j e.assign less (omega (arith, long, lt));
       one_store = let same = same_store_count few ms fs a in omega (arith, same, w.one_store);
       no_temporary = sym (same_all_temporaries few ms fs a) ∙ t;
@@ -381,17 +381,18 @@ good_both : (few : Type 0) (r : Row) (t : Option (List Move)) (v : Option (Vec F
 good_both few r None None e b = (λ g. absurd g, λ h. let never : Some h.moves ≡ None = sym h.transfer ∙ e in absurd (cc))
 good_both few r None (Some v) e b = absurd b
 good_both few r (Some ms) None e b = absurd b
-good_both few r (Some ms) (Some v) e b =
-    (λ g. record {
-      moves = ms;
-      transfer = e;
-      well_formed = well_by_good few ms v.items b g;
-      no_temporary = same_all_temporaries few ms v.items b ∙ g.no_temporary;
-    },
-    λ h.
-    let both_are : Some h.moves ≡ Some ms = sym h.transfer ∙ e in
-    let same : h.moves ≡ ms = cc in
-    good_by_well few ms v.items b (subst IsWellFormed same h.well_formed) (subst (λ xs. list_any is_temporary (flat_map cells_of_move xs) ≡ false) same h.no_temporary))
+good_both few r (Some ms) (Some v) e b = (
+  λ g. record {
+    moves = ms;
+    transfer = e;
+    well_formed = well_by_good few ms v.items b g;
+    no_temporary = same_all_temporaries few ms v.items b ∙ g.no_temporary;
+  },
+  λ h.
+      let both_are : Some h.moves ≡ Some ms = sym h.transfer ∙ e in
+      let same : h.moves ≡ ms = cc in
+      good_by_well few ms v.items b (subst IsWellFormed same h.well_formed) (subst (λ xs. list_any is_temporary (flat_map cells_of_move xs) ≡ false) same h.no_temporary),
+)
 
 pub good_row : (r : Row) (e : Expanded) → IsExpanded r e → IsGood e.transfer ↔ HasGoodTransfer r
 good_row r e x = good_both _ r r.transfer e.transfer refl x.transfer

@@ -70,6 +70,7 @@ least_with rule xs r line (Some n) e b least = (there (min_of n line), λ m h. b
     there : (min n line ≡ n) ⊎ (min n line ≡ line) → HasBrokenAmong rule (xs ++ r ∷ []) (min n line)
     there (inl same) = subst (HasBrokenAmong rule (xs ++ r ∷ [])) (sym same) (wider rule xs r n least.0)
     there (inr same) = subst (HasBrokenAmong rule (xs ++ r ∷ [])) (sym same) (last rule xs r line e b)
+
     by : (m : ℕ) → HasBrokenAmong rule xs m ⊎ ((m ≡ r.line) × IsBroken rule r) → min n line ≤ m
     by m (inl h) = let at_most : n ≤ m = least.1 m h in omega (arith, at_most)
     by m (inr h) = omega (arith, h.0, e)
@@ -87,12 +88,6 @@ least_without rule xs r (Some n) whole least = (wider rule xs r n least.0, λ m 
     by : (m : ℕ) → HasBrokenAmong rule xs m ⊎ ((m ≡ r.line) × IsBroken rule r) → n ≤ m
     by m (inl h) = least.1 m h
     by m (inr h) = absurd (whole h.1)
-
-pub least_at_first : (rule : RowRule) (rs : List Row) → IsLeast (HasBrokenAmong rule (take 0 rs)) None
-least_at_first rule rs = λ m h. none h.row h.among
-  where
-    none : (r : Row) → Contains (take 0 rs) r → ⊥
-    none r (k, lt, e) = omega (arith, lt)
 
 pub one_broken_more :
     (rule : RowRule) (rs : List Row) (es : List Expanded) (i : ℕ) (e : Expanded) (least : Option ℕ) → i < length es → e ≡ get_or es i e → AllExpanded rs es

@@ -11,7 +11,10 @@ ghost use Rattle.md_expand.specs.Expanded.{IsExpanded};
 ghost use Rattle.md_row_rules.specs.Goods.{filled_apart, same_place, uses_temporary, AreGood, IsGood};
 
 use md_expand::{Expanded, Filled};
-use rtl_tree::{Assign, Cell, Construct, Expr, Place, are_flags_tested, is_free, is_free_below, is_root, is_same};
+use rtl_tree::{
+    Assign, Cell, Construct, Expr, Place, are_flags_tested, is_free, is_free_below, is_root,
+    is_same,
+};
 
 /// The greatest depth of a tree in a well-formed transfer; a leaf has depth 1.
 const GREATEST_DEPTH: u32 = 32;
@@ -126,7 +129,10 @@ fn is_to_memory(a: &Assign) -> bool
 fn has_one_store(list: &[Filled]) -> bool
     ensures { IsTrue result ↔ (count_by (λ f. is_store f.assign.to) list.now ≤ 1) }
 {
-    list.iter().filter(|filled| is_to_memory(&filled.assign)).count() <= 1
+    list.iter()
+        .filter(|filled| is_to_memory(&filled.assign))
+        .count()
+        <= 1
 }
 
 fn is_to_same_cell(a: &Assign, b: &Assign) -> bool

@@ -11,12 +11,12 @@ pub loop-row-preserved : goal.loop-row-preserved
 loop-row-preserved c = λ rs a.
     let more = λ (least : Option ℕ). IsLeast (HasBrokenAmong c.args.rule (take (c.loop-row.row-index + 1) rs)) least in
     elim c.if-is_broken.branch [
-      then-is_broken w ↦ subst more (sym (w.least-is ∙ ap Some w.sooner.ensures))
-        (one_broken_more c.args.rule rs c.args.rows.now c.loop-row.row-index c.row-item.result c.loop-row.least c.loop-row-test.true c.row-item.is a
-        (λ r x. (c.is_broken.ensures r x).0 w.if-is_broken.true) (c.loop-row.invariant rs a))
-    | else-is_broken w ↦ subst more (sym w.least-is)
-        (one_whole_more c.args.rule rs c.args.rows.now c.loop-row.row-index c.row-item.result c.loop-row.least c.loop-row-test.true c.row-item.is a
-        (λ r x b. let yes : c.is_broken.result ≡ true = (c.is_broken.ensures r x).1 b in absurd (cc (yes, w.if-is_broken.false))) (c.loop-row.invariant rs a))
+      | then-is_broken w ↦ subst more (sym (w.least-is ∙ ap Some w.sooner.ensures))
+          (one_broken_more c.args.rule rs c.args.rows.now c.loop-row.row-index c.row-item.result c.loop-row.least c.loop-row-test.true c.row-item.is a
+          (λ r x. (c.is_broken.ensures r x).0 w.if-is_broken.true) (c.loop-row.invariant rs a))
+      | else-is_broken w ↦ subst more (sym w.least-is)
+          (one_whole_more c.args.rule rs c.args.rows.now c.loop-row.row-index c.row-item.result c.loop-row.least c.loop-row-test.true c.row-item.is a
+          (λ r x b. let yes : c.is_broken.result ≡ true = (c.is_broken.ensures r x).1 b in absurd (cc (yes, w.if-is_broken.false))) (c.loop-row.invariant rs a))
     ]
 
 pub returns : goal.returns

@@ -1,6 +1,6 @@
 -- Transfers that are alike but for the numbers of their holes are as good.
-use Rattle.std.proofs.Common.{◌≡◌, ℕ, zero, suc, ◌+◌, ◌<◌, ◌≤◌, max, not, ◌&&◌, ◌||◌, ◌==◌, Bool, true, false, cond, List, [], ◌∷◌, ◌++◌, length, refl, sym, ap, ◌∙◌, subst, arith}
-use Rattle.std.specs.Prelude.{nat_le, count_by, flat_map, All, AllPairs, IsTrue, ◌↔◌, slice_index_or}
+use Rattle.std.proofs.Common.{◌≡◌, ℕ, zero, suc, ◌+◌, ◌<◌, max, not, ◌&&◌, ◌||◌, Bool, false, cond, List, [], ◌∷◌, length, refl, sym, ap, ◌∙◌, subst, arith}
+use Rattle.std.specs.Prelude.{nat_le, count_by, flat_map, ◌↔◌, slice_index_or}
 use Rattle.std.specs.Global.{Vec}
 use Rattle.std.specs.List.{list_any}
 use Rattle.std.specs.Option.{option_map}
@@ -10,15 +10,14 @@ use Rattle.std.proofs.lemmas.List.Folds.{list_any-append}
 use Rattle.std.proofs.lemmas.List.Sums.{sum_by-cons}
 use Rattle.rtl_tree.specs.declared.cells.Cell.{Cell}
 use Rattle.rtl_tree.specs.declared.cells.Cell.TheVariants.{Hard, Temp, Flag, Pc, Input, Output, Halt, Hole}
-use Rattle.rtl_tree.specs.declared.expressions.UnOp.{UnOp}
 use Rattle.rtl_tree.specs.declared.expressions.UnOp.TheVariants.{Neg, Not, Sxb, Test}
 use Rattle.rtl_tree.specs.declared.expressions.BinOp.{BinOp}
 use Rattle.rtl_tree.specs.declared.expressions.BinOp.TheVariants.{Add, Sub, Mul, Div, Divu, Rem, Remu, And, Or, Xor, Shl, Shr, Shru, Cmp, Pair, When}
 use Rattle.rtl_tree.specs.declared.constructs.Construct.{Construct}
 use Rattle.rtl_tree.specs.declared.constructs.Construct.TheVariants.{Compared, Jump, Taken, Written}
-use Rattle.rtl_tree.specs.Trees.{Tree, Read, Load, Unary, Binary, AnyNumber, AnyName}
+use Rattle.rtl_tree.specs.Trees.{Tree, Binary}
 use Rattle.rtl_tree.specs.Moves.{Goal, ToCell, ToMemory, Move}
-use Rattle.rtl_tree.specs.WellFormed.{depth, is_construct, free_of, free_of_both, free_below, is_flag, flags_tested, compares_for_flag, jumps_by_counter, takes_for_register, reads_no_output, tests_flags, is_shallow, is_store, same_goal_cell, set_apart, IsPlaced, IsWellFormed}
+use Rattle.rtl_tree.specs.WellFormed.{depth, is_construct, free_of, free_of_both, free_below, is_flag, flags_tested, compares_for_flag, jumps_by_counter, takes_for_register, tests_flags, is_shallow, is_store, same_goal_cell, set_apart, IsPlaced, IsWellFormed}
 use Rattle.md_text.specs.Rules.{is_temporary, cells_in, cells_of_goal, cells_of_move, HasGoodTransfer}
 use Rattle.md_text.specs.Expansion.{Expanded as Row}
 use Rattle.md_expand.specs.Like.{IsLike, equal, registers, numbers, names, loads, unaries, binaries}

@@ -1,4 +1,4 @@
-use Rattle.std.proofs.Common.{ℕ, List, ◌+◌, ◌∙◌, ◌≡◌, true, take, sym, ap, subst}
+use Rattle.std.proofs.Common.{ℕ, ◌+◌, ◌∙◌, ◌≡◌, true, take, sym, ap, subst}
 use Rattle.std.specs.declared.option.Option.{Option}
 use Rattle.std.specs.declared.option.Option.TheVariants.{Some}
 use Rattle.md_rules.specs.Least.{IsLeast}

@@ -1,11 +1,10 @@
 -- The first broken rule of two ranges of rules.
-use Rattle.std.proofs.Common.{◌≡◌, ℕ, ◌+◌, ◌<◌, ◌≤◌, ◌⊎◌, inl, inr, refl, sym, ap, ◌∙◌, subst, arith}
+use Rattle.std.proofs.Common.{◌≡◌, ℕ, ◌+◌, ◌<◌, ◌≤◌, ◌⊎◌, inl, inr, subst, arith}
 use Rattle.std.specs.declared.option.Option.{Option}
 use Rattle.std.specs.declared.option.Option.TheVariants.{Some, None}
 use Rattle.md_text.specs.Declarations.{Declared}
 use Rattle.md_text.specs.Accepted.{Rule, number_of}
 use Rattle.md_forms.specs.declared.rules.Told.{Told}
-use Rattle.md_forms.specs.declared.rules.Rule.{Rule as Named}
 use Rattle.md_forms.specs.SeenRules.{rule_of}
 use Rattle.md_rules.specs.Least.{IsLeast}
 use Rattle.md_rules.specs.Broken.{BreaksBy, IsFirst}

@@ -1,21 +1,18 @@
 -- The rows that count.
-use Rattle.std.proofs.Common.{◌≡◌, ℕ, zero, suc, ◌<◌, ◌≤◌, List, [], ◌∷◌, take, length, refl, sym, ap, ◌∙◌, subst, arith}
-use Rattle.std.specs.Prelude.{IsTrue}
+use Rattle.std.proofs.Common.{◌≡◌, ℕ, zero, suc, ◌≤◌, List, [], ◌∷◌, take, refl, sym, ap, subst, arith}
 use Rattle.std.specs.declared.option.Option.{Option}
 use Rattle.std.specs.declared.option.Option.TheVariants.{Some, None}
 use Rattle.std.specs.List.{slice_get}
-use Rattle.std.proofs.lemmas.List.{take_all}
 use Rattle.md_text.specs.Declarations.{Declared}
 use Rattle.md_text.specs.Expansion.{Expanded as Row, expansions}
-use Rattle.md_text.specs.Rules.{HasGoodTransfer, is_too_large}
-use Rattle.md_text.specs.Accepted.{HasBrokenRow, HasTooMany, most_rows}
+use Rattle.md_text.specs.Accepted.{HasTooMany}
 use Rattle.md_expand.specs.declared.expanded.Expanded.{Expanded}
 use Rattle.md_expand.specs.Expanded.{AllExpanded}
 use Rattle.md_rules.specs.Least.{IsLeast}
 use Rattle.md_rules.specs.Broken.{BreaksBy}
-use Rattle.md_reader.specs.declared.row_rules.RowRule.{RowRule}
-use Rattle.md_reader.specs.declared.row_rules.RowRule.TheVariants.{BadTransfer, TooLarge}
-use Rattle.md_reader.specs.RowRules.{HasBrokenAmong, rule_named}
+use Rattle.md_row_rules.specs.declared.row_rules.RowRule.{RowRule}
+use Rattle.md_row_rules.specs.declared.row_rules.RowRule.TheVariants.{BadTransfer, TooLarge}
+use Rattle.md_row_rules.specs.RowRules.{HasBrokenAmong, rule_named}
 
 all_take : (n : ℕ) (rs : List Row) (es : List Expanded) → AllExpanded rs es → AllExpanded (take n rs) (take n es)
 all_take zero rs es a = tt
@@ -48,7 +45,7 @@ pub least_counted :
 least_counted rule d es first o a e least =
     let rows = expansions d.width d.all in
     let those : AllExpanded (take 4096 (take 4097 rows)) first =
-        subst (λ (xs : List Expanded). AllExpanded (take 4096 (take 4097 rows)) xs) (sym e) (all_take 4096 (take 4097 rows) es a) in
+    subst (λ (xs : List Expanded). AllExpanded (take 4096 (take 4097 rows)) xs) (sym e) (all_take 4096 (take 4097 rows) es a) in
     let counted : AllExpanded (take 4096 rows) first = subst (λ (rs : List Row). AllExpanded rs first) (shorter 4096 4097 rows (omega arith)) those in
     same_least (HasBrokenAmong rule (take 4096 rows)) (BreaksBy (rule_named rule) d) o (named rule d) (named_back rule d) (least (take 4096 rows) counted)
 

@@ -1,3 +1,1 @@
 pub mod Refused
-pub mod RowRules
-pub mod Goods

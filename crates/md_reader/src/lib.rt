@@ -4,7 +4,6 @@
 //! least line. Rules 1 to 3 are of lines alone; the others are of what the lines declare, and stand in the order of their numbers.
 //!
 //! - `refused`: the reason that is told.
-//! - `transfers`, `row_rules`: the rules of rows without modes.
 //! - `told`: which rule is told of what a text declares.
 //! - `names`, `numbers`, `rows`, `described`: the description.
 //! - `reader`: whole texts.
@@ -17,13 +16,11 @@ mod names;
 mod numbers;
 mod reader;
 mod refused;
-mod row_rules;
 mod rows;
 #[cfg(test)]
 mod tests;
 #[cfg(test)]
 mod texts;
 mod told;
-mod transfers;
 
 pub use reader::read_description;

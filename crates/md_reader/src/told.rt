@@ -9,11 +9,11 @@ ghost use Rattle.md_forms.specs.SeenRules.{rule_of};
 ghost use Rattle.md_rules.specs.Least.{IsLeast, IsNumbered};
 ghost use Rattle.md_rules.specs.Broken.{BreaksBy, IsFirst};
 ghost use Rattle.md_expand.specs.Expanded.{AllExpanded};
-ghost use Rattle.md_reader.specs.RowRules.{rule_named};
+ghost use Rattle.md_row_rules.specs.RowRules.{rule_named};
 
-use crate::row_rules::{RowRule, least_row_line};
 use md_expand::{Expanded, MOST_ROWS, passing_line};
 use md_forms::{Declared, Rule, Told};
+use md_row_rules::{RowRule, least_row_line};
 use md_rules::told_of_holes;
 use rtl_tree::NoMemory;
 use std::alloc::Global;
@@ -41,11 +41,11 @@ fn first_of(first: Option<Told>, second: Option<Told>) -> Option<Told>
 fn counted(rows: &[Expanded]) -> &[Expanded]
     ensures { result.now ≡ take 4096 rows.now }
 {
-    &rows[..rows.len().min(MOST_ROWS)]
+    &rows[..MOST_ROWS.min(rows.len())]
 }
 
 fn told_of_row(declared: &Declared, rows: &[Expanded], rule: RowRule) -> Option<u32>
-    requires { AllExpanded (take 4097 (expansions declared.now.width (declarations_of declared.now.all.now))) rows.now }
+    requires { AllExpanded (take 4097 (expansions declared.now.width (declarations_of declared.now.all))) rows.now }
     ensures { IsLeast (BreaksBy (rule_named rule) (declared_of declared.now)) result }
 {
     least_row_line(rule, counted(rows))
@@ -58,12 +58,18 @@ pub fn told_from_transfers(
     rows: &[Expanded],
 ) -> Result<Option<Told>, NoMemory>
     requires numbered { IsNumbered (declared_of declared.now) }
-    requires rows { AllExpanded (take 4097 (expansions declared.now.width (declarations_of declared.now.all.now))) rows.now }
+    requires rows { AllExpanded (take 4097 (expansions declared.now.width (declarations_of declared.now.all))) rows.now }
     ensures { IfOk result (IsFirst 10 15 (declared_of declared.now)) }
 {
-    let transfer = told_at(Rule::BadTransfer, told_of_row(declared, rows, RowRule::BadTransfer));
+    let transfer = told_at(
+        Rule::BadTransfer,
+        told_of_row(declared, rows, RowRule::BadTransfer),
+    );
     let holes = told_of_holes(alloc, declared)?;
-    let large = told_at(Rule::TooLarge, told_of_row(declared, rows, RowRule::TooLarge));
+    let large = told_at(
+        Rule::TooLarge,
+        told_of_row(declared, rows, RowRule::TooLarge),
+    );
     let many = told_at(Rule::TooMany, passing_line(declared, rows));
     Ok(first_of(transfer, first_of(holes, first_of(large, many))))
 }

@@ -3,8 +3,8 @@ use Rattle.std.specs.Prelude.{◌≡◌, ℕ, IsTrue, min, List, Contains, Optio
 use Rattle.md_text.specs.Expansion.{Expanded}
 use Rattle.md_text.specs.Rules.{HasGoodTransfer, is_too_large}
 use Rattle.md_text.specs.Accepted as text
-use Rattle.md_reader.specs.declared.row_rules.RowRule.{RowRule}
-use Rattle.md_reader.specs.declared.row_rules.RowRule.TheVariants.{BadTransfer, TooLarge}
+use Rattle.md_row_rules.specs.declared.row_rules.RowRule.{RowRule}
+use Rattle.md_row_rules.specs.declared.row_rules.RowRule.TheVariants.{BadTransfer, TooLarge}
 
 abbrev pub IsBroken : RowRule → Expanded → Type 0
 IsBroken BadTransfer row = HasGoodTransfer row → ⊥

@@ -1,5 +1,5 @@
 -- The least line among rows that break a rule.
-use Rattle.std.proofs.Common.{◌≡◌, ℕ, zero, suc, ◌+◌, ◌<◌, ◌≤◌, ◌⊎◌, inl, inr, min, Bool, true, List, [], ◌∷◌, ◌++◌, take, length, get_or, refl, sym, ap, ◌∙◌, subst, arith}
+use Rattle.std.proofs.Common.{◌≡◌, ℕ, zero, suc, ◌+◌, ◌<◌, ◌≤◌, ◌⊎◌, inl, inr, min, List, [], ◌∷◌, ◌++◌, take, length, get_or, refl, sym, ap, ◌∙◌, subst, arith}
 use Rattle.std.specs.Prelude.{Contains}
 use Rattle.std.specs.declared.option.Option.{Option}
 use Rattle.std.specs.declared.option.Option.TheVariants.{Some, None}
@@ -8,8 +8,8 @@ use Rattle.md_text.specs.Expansion.{Expanded as Row}
 use Rattle.md_expand.specs.declared.expanded.Expanded.{Expanded}
 use Rattle.md_expand.specs.Expanded.{IsExpanded, AllExpanded}
 use Rattle.md_rules.specs.Least.{IsLeast}
-use Rattle.md_reader.specs.declared.row_rules.RowRule.{RowRule}
-use Rattle.md_reader.specs.RowRules.{IsBroken, HasBrokenAmong, sooner}
+use Rattle.md_row_rules.specs.declared.row_rules.RowRule.{RowRule}
+use Rattle.md_row_rules.specs.RowRules.{IsBroken, HasBrokenAmong, sooner}
 
 -- the row that comes next, with the row of the program that stands for it
 record Next (rs : List Row) (i : ℕ) (e : Expanded) : Type 0 where
@@ -25,6 +25,14 @@ next_row (r ∷ rs) (x ∷ es) zero e lt at a = record { row = r; split = refl; 
 next_row (r ∷ rs) (x ∷ es) (suc i) e lt at a =
     let n = next_row rs es i e (omega (arith, lt)) at a.1 in
     record { row = n.row; split = ap (λ ys. r ∷ ys) n.split; expanded = n.expanded }
+
+pub all_taken : (rs : List Row) (es : List Expanded) (i : ℕ) → length es ≤ i → AllExpanded rs es → take i rs ≡ rs
+all_taken [] [] zero l a = refl
+all_taken [] [] (suc i) l a = refl
+all_taken [] (x ∷ es) i l a = absurd a
+all_taken (r ∷ rs) [] i l a = absurd a
+all_taken (r ∷ rs) (x ∷ es) zero l a = absurd (omega (arith, l))
+all_taken (r ∷ rs) (x ∷ es) (suc i) l a = ap (λ ys. r ∷ ys) (all_taken rs es i (omega (arith, l)) a.1)
 
 alone : (r s : Row) → Contains (r ∷ []) s → r ≡ s
 alone r s (zero, lt, e) = e
@@ -62,6 +70,7 @@ least_with rule xs r line (Some n) e b least = (there (min_of n line), λ m h. b
     there : (min n line ≡ n) ⊎ (min n line ≡ line) → HasBrokenAmong rule (xs ++ r ∷ []) (min n line)
     there (inl same) = subst (HasBrokenAmong rule (xs ++ r ∷ [])) (sym same) (wider rule xs r n least.0)
     there (inr same) = subst (HasBrokenAmong rule (xs ++ r ∷ [])) (sym same) (last rule xs r line e b)
+
     by : (m : ℕ) → HasBrokenAmong rule xs m ⊎ ((m ≡ r.line) × IsBroken rule r) → min n line ≤ m
     by m (inl h) = let at_most : n ≤ m = least.1 m h in omega (arith, at_most)
     by m (inr h) = omega (arith, h.0, e)
@@ -80,19 +89,13 @@ least_without rule xs r (Some n) whole least = (wider rule xs r n least.0, λ m 
     by m (inl h) = least.1 m h
     by m (inr h) = absurd (whole h.1)
 
-pub least_at_first : (rule : RowRule) (rs : List Row) → IsLeast (HasBrokenAmong rule (take 0 rs)) None
-least_at_first rule rs = λ m h. none h.row h.among
-  where
-    none : (r : Row) → Contains (take 0 rs) r → ⊥
-    none r (k, lt, e) = omega (arith, lt)
-
 pub one_broken_more :
     (rule : RowRule) (rs : List Row) (es : List Expanded) (i : ℕ) (e : Expanded) (least : Option ℕ) → i < length es → e ≡ get_or es i e → AllExpanded rs es
     → ((r : Row) → IsExpanded r e → IsBroken rule r) → IsLeast (HasBrokenAmong rule (take i rs)) least
     → IsLeast (HasBrokenAmong rule (take (i + 1) rs)) (Some (sooner least e.line))
 one_broken_more rule rs es i e least lt at a broken before =
     let n = next_row rs es i e lt at a in
-    let more : take (i + 1) rs ≡ take i rs ++ n.row ∷ [] = ap (λ k. take k rs) (omega arith) ∙ n.split in
+    let more : take (i + 1) rs ≡ take i rs ++ n.row ∷ [] = let next : i + 1 ≡ suc i = omega arith in ap (λ k. take k rs) next ∙ n.split in
     subst (λ xs. IsLeast (HasBrokenAmong rule xs) (Some (sooner least e.line))) (sym more)
     (least_with rule (take i rs) n.row e.line least n.expanded.line (broken n.row n.expanded) before)
 
@@ -102,5 +105,5 @@ pub one_whole_more :
     → IsLeast (HasBrokenAmong rule (take (i + 1) rs)) least
 one_whole_more rule rs es i e least lt at a whole before =
     let n = next_row rs es i e lt at a in
-    let more : take (i + 1) rs ≡ take i rs ++ n.row ∷ [] = ap (λ k. take k rs) (omega arith) ∙ n.split in
+    let more : take (i + 1) rs ≡ take i rs ++ n.row ∷ [] = let next : i + 1 ≡ suc i = omega arith in ap (λ k. take k rs) next ∙ n.split in
     subst (λ xs. IsLeast (HasBrokenAmong rule xs) least) (sym more) (least_without rule (take i rs) n.row least (whole n.row n.expanded) before)

@@ -1,5 +1,5 @@
-use Rattle.md_reader.proofs.Alike.{good_row}
-use Rattle.md_reader.proofs.transfers.has_good_transfer.Goals as goal
+use Rattle.md_row_rules.proofs.Alike.{good_row}
+use Rattle.md_row_rules.proofs.transfers.has_good_transfer.Goals as goal
 
 pub returns : goal.returns
 returns c = λ r x.

@@ -1,17 +1,20 @@
 //! Whether the transfer of a row without modes is good.
 
-ghost use Rattle.std.specs.Prelude.{◌≡◌, ◌↔◌, ◌≤◌, true, false, IsTrue, All, AllPairs, count_by, flat_map, nat_le};
+ghost use Rattle.std.specs.Prelude.{◌≡◌, ◌↔◌, ◌≤◌, true, false, IsTrue, All, AllPairs, count_by, nat_le};
 ghost use Rattle.std.specs.List.{list_any};
 ghost use Rattle.rtl_tree.specs.Trees.{tree_of};
 ghost use Rattle.rtl_tree.specs.Moves.{goal_of};
 ghost use Rattle.rtl_tree.specs.WellFormed.{compares_for_flag, free_of_both, is_shallow, is_store, IsPlaced, jumps_by_counter, reads_no_output, same_goal_cell, takes_for_register, tests_flags, depth};
-ghost use Rattle.md_text.specs.Rules.{is_temporary, cells_in, cells_of_goal, cells_of_move, HasGoodTransfer};
+ghost use Rattle.md_text.specs.Rules.{is_temporary, cells_in, cells_of_goal, HasGoodTransfer};
 ghost use Rattle.md_text.specs.Expansion.{Expanded as Row};
 ghost use Rattle.md_expand.specs.Expanded.{IsExpanded};
-ghost use Rattle.md_reader.specs.Goods.{filled_apart, same_place, AreGood, IsGood};
+ghost use Rattle.md_row_rules.specs.Goods.{filled_apart, same_place, uses_temporary, AreGood, IsGood};
 
 use md_expand::{Expanded, Filled};
-use rtl_tree::{Assign, Cell, Construct, Expr, Place, are_flags_tested, is_free, is_free_below, is_root, is_same};
+use rtl_tree::{
+    Assign, Cell, Construct, Expr, Place, are_flags_tested, is_free, is_free_below, is_root,
+    is_same,
+};
 
 /// The greatest depth of a tree in a well-formed transfer; a leaf has depth 1.
 const GREATEST_DEPTH: u32 = 32;
@@ -126,7 +129,10 @@ fn is_to_memory(a: &Assign) -> bool
 fn has_one_store(list: &[Filled]) -> bool
     ensures { IsTrue result ↔ (count_by (λ f. is_store f.assign.to) list.now ≤ 1) }
 {
-    list.iter().filter(|filled| is_to_memory(&filled.assign)).count() <= 1
+    list.iter()
+        .filter(|filled| is_to_memory(&filled.assign))
+        .count()
+        <= 1
 }
 
 fn is_to_same_cell(a: &Assign, b: &Assign) -> bool
@@ -197,16 +203,16 @@ fn is_for_temporary(place: &Place) -> bool
     }
 }
 
-fn uses_temporary(a: &Assign) -> bool
-    ensures { result ≡ list_any is_temporary (cells_of_move a.now) }
+fn uses_temporary(filled: &Filled) -> bool
+    ensures { result ≡ uses_temporary filled.now }
 {
-    is_for_temporary(&a.to) || has_temporary(&a.value)
+    is_for_temporary(&filled.assign.to) || has_temporary(&filled.assign.value)
 }
 
 fn use_temporaries(list: &[Filled]) -> bool
-    ensures { result ≡ list_any is_temporary (flat_map (λ f. cells_of_move f.assign) list.now) }
+    ensures { result ≡ list_any uses_temporary list.now }
 {
-    list.iter().any(|filled| uses_temporary(&filled.assign))
+    list.iter().any(|filled| uses_temporary(filled))
 }
 
 fn are_good(list: &[Filled]) -> bool

@@ -1,23 +1,23 @@
 -- Transfers that are alike but for the numbers of their holes are as good.
-use Rattle.std.proofs.Common.{◌≡◌, ℕ, zero, suc, ◌+◌, ◌<◌, ◌≤◌, max, not, ◌&&◌, ◌||◌, ◌==◌, Bool, true, false, cond, List, [], ◌∷◌, ◌++◌, length, refl, sym, ap, ◌∙◌, subst, arith}
-use Rattle.std.specs.Prelude.{nat_le, count_by, flat_map, All, AllPairs, IsTrue, ◌↔◌, slice_index_or}
+use Rattle.std.proofs.Common.{◌≡◌, ℕ, zero, suc, ◌+◌, ◌<◌, max, not, ◌&&◌, ◌||◌, Bool, false, cond, List, [], ◌∷◌, length, refl, sym, ap, ◌∙◌, subst, arith}
+use Rattle.std.specs.Prelude.{nat_le, count_by, flat_map, ◌↔◌, slice_index_or}
 use Rattle.std.specs.Global.{Vec}
 use Rattle.std.specs.List.{list_any}
 use Rattle.std.specs.Option.{option_map}
 use Rattle.std.specs.declared.option.Option.{Option}
 use Rattle.std.specs.declared.option.Option.TheVariants.{Some, None}
 use Rattle.std.proofs.lemmas.List.Folds.{list_any-append}
+use Rattle.std.proofs.lemmas.List.Sums.{sum_by-cons}
 use Rattle.rtl_tree.specs.declared.cells.Cell.{Cell}
 use Rattle.rtl_tree.specs.declared.cells.Cell.TheVariants.{Hard, Temp, Flag, Pc, Input, Output, Halt, Hole}
-use Rattle.rtl_tree.specs.declared.expressions.UnOp.{UnOp}
 use Rattle.rtl_tree.specs.declared.expressions.UnOp.TheVariants.{Neg, Not, Sxb, Test}
 use Rattle.rtl_tree.specs.declared.expressions.BinOp.{BinOp}
 use Rattle.rtl_tree.specs.declared.expressions.BinOp.TheVariants.{Add, Sub, Mul, Div, Divu, Rem, Remu, And, Or, Xor, Shl, Shr, Shru, Cmp, Pair, When}
 use Rattle.rtl_tree.specs.declared.constructs.Construct.{Construct}
 use Rattle.rtl_tree.specs.declared.constructs.Construct.TheVariants.{Compared, Jump, Taken, Written}
-use Rattle.rtl_tree.specs.Trees.{Tree, Read, Load, Unary, Binary, AnyNumber, AnyName}
+use Rattle.rtl_tree.specs.Trees.{Tree, Binary}
 use Rattle.rtl_tree.specs.Moves.{Goal, ToCell, ToMemory, Move}
-use Rattle.rtl_tree.specs.WellFormed.{depth, is_construct, free_of, free_of_both, free_below, is_flag, flags_tested, compares_for_flag, jumps_by_counter, takes_for_register, reads_no_output, tests_flags, is_shallow, is_store, same_goal_cell, set_apart, IsPlaced, IsWellFormed}
+use Rattle.rtl_tree.specs.WellFormed.{depth, is_construct, free_of, free_of_both, free_below, is_flag, flags_tested, compares_for_flag, jumps_by_counter, takes_for_register, tests_flags, is_shallow, is_store, same_goal_cell, set_apart, IsPlaced, IsWellFormed}
 use Rattle.md_text.specs.Rules.{is_temporary, cells_in, cells_of_goal, cells_of_move, HasGoodTransfer}
 use Rattle.md_text.specs.Expansion.{Expanded as Row}
 use Rattle.md_expand.specs.Like.{IsLike, equal, registers, numbers, names, loads, unaries, binaries}
@@ -25,7 +25,7 @@ use Rattle.md_expand.specs.Filled.{IsLikeGoal, same_goal, registers as both_regi
 use Rattle.md_expand.specs.Expanded.{IsExpanded}
 use Rattle.md_expand.specs.declared.moves.Filled.{Filled}
 use Rattle.md_expand.specs.declared.expanded.Expanded.{Expanded}
-use Rattle.md_reader.specs.Goods.{same_place, filled_apart, AreGood, IsGood}
+use Rattle.md_row_rules.specs.Goods.{same_place, filled_apart, uses_temporary, AreGood, IsGood}
 
 same_depth : (a b : Tree) → IsLike a b → depth a ≡ depth b
 same_depth a b (equal t) = refl
@@ -153,7 +153,7 @@ same_temporaries a b (unaries o c d l) = same_temporaries c d l
 same_temporaries a b (binaries o c d e f l r) =
     list_any-append is_temporary (cells_in c) (cells_in d)
     ∙ either (list_any is_temporary (cells_in c)) (list_any is_temporary (cells_in d)) (list_any is_temporary (cells_in e)) (list_any is_temporary (cells_in f))
-      (same_temporaries c e l) (same_temporaries d f r)
+    (same_temporaries c e l) (same_temporaries d f r)
     ∙ sym (list_any-append is_temporary (cells_in e) (cells_in f))
 
 same_free_both : (k : Construct) (g h : Goal) (t u : Tree) → IsLikeGoal g h → IsLike t u → free_of_both k g t ≡ free_of_both k h u
@@ -234,140 +234,56 @@ placed_back m n g v p = record {
   output = same_free_both Written m.to n.to m.value n.value g v ∙ p.output;
 }
 
+-- a place that is no register hole is told apart from both of two alike places, or from none
+same_by_other : (c : Cell) (h l : Goal) → IsLikeGoal h l → hole_of_goal (ToCell c) ≡ None → same_goal_cell (ToCell c) l ≡ same_goal_cell (ToCell c) h
+same_by_other c h l (same_goal k) e = refl
+same_by_other c h l (stores w a b v) e = refl
+same_by_other (Hard k) h l (both_registers m n) e = refl
+same_by_other (Temp k) h l (both_registers m n) e = refl
+same_by_other (Flag k) h l (both_registers m n) e = refl
+same_by_other Pc h l (both_registers m n) e = refl
+same_by_other Input h l (both_registers m n) e = refl
+same_by_other Output h l (both_registers m n) e = refl
+same_by_other Halt h l (both_registers m n) e = refl
+same_by_other (Hole k) h l (both_registers m n) e = absurd (cc)
+
+same_by_hole : (m n : ℕ) (h l : Goal) → IsLikeGoal h l → same_place (Some m) (hole_of_goal h) (same_goal_cell (ToCell (Hole n)) l) ≡ same_goal_cell (ToCell (Hole m)) h
+same_by_hole m n h l (both_registers j k) = refl
+same_by_hole m n h l (stores w a b v) = refl
+same_by_hole m n h l (same_goal (ToMemory w a)) = refl
+same_by_hole m n h l (same_goal (ToCell (Hard k))) = refl
+same_by_hole m n h l (same_goal (ToCell (Temp k))) = refl
+same_by_hole m n h l (same_goal (ToCell (Flag k))) = refl
+same_by_hole m n h l (same_goal (ToCell Pc)) = refl
+same_by_hole m n h l (same_goal (ToCell Input)) = refl
+same_by_hole m n h l (same_goal (ToCell Output)) = refl
+same_by_hole m n h l (same_goal (ToCell Halt)) = refl
+same_by_hole m n h l (same_goal (ToCell (Hole k))) = refl
+
 same_places : (g h k l : Goal) → IsLikeGoal g k → IsLikeGoal h l → same_place (hole_of_goal g) (hole_of_goal h) (same_goal_cell k l) ≡ same_goal_cell g h
-same_places g h k l (same_goal (ToCell (Hard m))) (same_goal (ToCell (Hard n))) = refl
-same_places g h k l (same_goal (ToCell (Hard m))) (same_goal (ToCell (Temp n))) = refl
-same_places g h k l (same_goal (ToCell (Hard m))) (same_goal (ToCell (Flag n))) = refl
-same_places g h k l (same_goal (ToCell (Hard m))) (same_goal (ToCell Pc)) = refl
-same_places g h k l (same_goal (ToCell (Hard m))) (same_goal (ToCell Input)) = refl
-same_places g h k l (same_goal (ToCell (Hard m))) (same_goal (ToCell Output)) = refl
-same_places g h k l (same_goal (ToCell (Hard m))) (same_goal (ToCell Halt)) = refl
-same_places g h k l (same_goal (ToCell (Hard m))) (same_goal (ToCell (Hole n))) = refl
-same_places g h k l (same_goal (ToCell (Hard m))) (same_goal (ToMemory wn an)) = refl
-same_places g h k l (same_goal (ToCell (Hard m))) (both_registers n nx) = refl
-same_places g h k l (same_goal (ToCell (Hard m))) (stores wn an bn ln) = refl
-same_places g h k l (same_goal (ToCell (Temp m))) (same_goal (ToCell (Hard n))) = refl
-same_places g h k l (same_goal (ToCell (Temp m))) (same_goal (ToCell (Temp n))) = refl
-same_places g h k l (same_goal (ToCell (Temp m))) (same_goal (ToCell (Flag n))) = refl
-same_places g h k l (same_goal (ToCell (Temp m))) (same_goal (ToCell Pc)) = refl
-same_places g h k l (same_goal (ToCell (Temp m))) (same_goal (ToCell Input)) = refl
-same_places g h k l (same_goal (ToCell (Temp m))) (same_goal (ToCell Output)) = refl
-same_places g h k l (same_goal (ToCell (Temp m))) (same_goal (ToCell Halt)) = refl
-same_places g h k l (same_goal (ToCell (Temp m))) (same_goal (ToCell (Hole n))) = refl
-same_places g h k l (same_goal (ToCell (Temp m))) (same_goal (ToMemory wn an)) = refl
-same_places g h k l (same_goal (ToCell (Temp m))) (both_registers n nx) = refl
-same_places g h k l (same_goal (ToCell (Temp m))) (stores wn an bn ln) = refl
-same_places g h k l (same_goal (ToCell (Flag m))) (same_goal (ToCell (Hard n))) = refl
-same_places g h k l (same_goal (ToCell (Flag m))) (same_goal (ToCell (Temp n))) = refl
-same_places g h k l (same_goal (ToCell (Flag m))) (same_goal (ToCell (Flag n))) = refl
-same_places g h k l (same_goal (ToCell (Flag m))) (same_goal (ToCell Pc)) = refl
-same_places g h k l (same_goal (ToCell (Flag m))) (same_goal (ToCell Input)) = refl
-same_places g h k l (same_goal (ToCell (Flag m))) (same_goal (ToCell Output)) = refl
-same_places g h k l (same_goal (ToCell (Flag m))) (same_goal (ToCell Halt)) = refl
-same_places g h k l (same_goal (ToCell (Flag m))) (same_goal (ToCell (Hole n))) = refl
-same_places g h k l (same_goal (ToCell (Flag m))) (same_goal (ToMemory wn an)) = refl
-same_places g h k l (same_goal (ToCell (Flag m))) (both_registers n nx) = refl
-same_places g h k l (same_goal (ToCell (Flag m))) (stores wn an bn ln) = refl
-same_places g h k l (same_goal (ToCell Pc)) (same_goal (ToCell (Hard n))) = refl
-same_places g h k l (same_goal (ToCell Pc)) (same_goal (ToCell (Temp n))) = refl
-same_places g h k l (same_goal (ToCell Pc)) (same_goal (ToCell (Flag n))) = refl
-same_places g h k l (same_goal (ToCell Pc)) (same_goal (ToCell Pc)) = refl
-same_places g h k l (same_goal (ToCell Pc)) (same_goal (ToCell Input)) = refl
-same_places g h k l (same_goal (ToCell Pc)) (same_goal (ToCell Output)) = refl
-same_places g h k l (same_goal (ToCell Pc)) (same_goal (ToCell Halt)) = refl
-same_places g h k l (same_goal (ToCell Pc)) (same_goal (ToCell (Hole n))) = refl
-same_places g h k l (same_goal (ToCell Pc)) (same_goal (ToMemory wn an)) = refl
-same_places g h k l (same_goal (ToCell Pc)) (both_registers n nx) = refl
-same_places g h k l (same_goal (ToCell Pc)) (stores wn an bn ln) = refl
-same_places g h k l (same_goal (ToCell Input)) (same_goal (ToCell (Hard n))) = refl
-same_places g h k l (same_goal (ToCell Input)) (same_goal (ToCell (Temp n))) = refl
-same_places g h k l (same_goal (ToCell Input)) (same_goal (ToCell (Flag n))) = refl
-same_places g h k l (same_goal (ToCell Input)) (same_goal (ToCell Pc)) = refl
-same_places g h k l (same_goal (ToCell Input)) (same_goal (ToCell Input)) = refl
-same_places g h k l (same_goal (ToCell Input)) (same_goal (ToCell Output)) = refl
-same_places g h k l (same_goal (ToCell Input)) (same_goal (ToCell Halt)) = refl
-same_places g h k l (same_goal (ToCell Input)) (same_goal (ToCell (Hole n))) = refl
-same_places g h k l (same_goal (ToCell Input)) (same_goal (ToMemory wn an)) = refl
-same_places g h k l (same_goal (ToCell Input)) (both_registers n nx) = refl
-same_places g h k l (same_goal (ToCell Input)) (stores wn an bn ln) = refl
-same_places g h k l (same_goal (ToCell Output)) (same_goal (ToCell (Hard n))) = refl
-same_places g h k l (same_goal (ToCell Output)) (same_goal (ToCell (Temp n))) = refl
-same_places g h k l (same_goal (ToCell Output)) (same_goal (ToCell (Flag n))) = refl
-same_places g h k l (same_goal (ToCell Output)) (same_goal (ToCell Pc)) = refl
-same_places g h k l (same_goal (ToCell Output)) (same_goal (ToCell Input)) = refl
-same_places g h k l (same_goal (ToCell Output)) (same_goal (ToCell Output)) = refl
-same_places g h k l (same_goal (ToCell Output)) (same_goal (ToCell Halt)) = refl
-same_places g h k l (same_goal (ToCell Output)) (same_goal (ToCell (Hole n))) = refl
-same_places g h k l (same_goal (ToCell Output)) (same_goal (ToMemory wn an)) = refl
-same_places g h k l (same_goal (ToCell Output)) (both_registers n nx) = refl
-same_places g h k l (same_goal (ToCell Output)) (stores wn an bn ln) = refl
-same_places g h k l (same_goal (ToCell Halt)) (same_goal (ToCell (Hard n))) = refl
-same_places g h k l (same_goal (ToCell Halt)) (same_goal (ToCell (Temp n))) = refl
-same_places g h k l (same_goal (ToCell Halt)) (same_goal (ToCell (Flag n))) = refl
-same_places g h k l (same_goal (ToCell Halt)) (same_goal (ToCell Pc)) = refl
-same_places g h k l (same_goal (ToCell Halt)) (same_goal (ToCell Input)) = refl
-same_places g h k l (same_goal (ToCell Halt)) (same_goal (ToCell Output)) = refl
-same_places g h k l (same_goal (ToCell Halt)) (same_goal (ToCell Halt)) = refl
-same_places g h k l (same_goal (ToCell Halt)) (same_goal (ToCell (Hole n))) = refl
-same_places g h k l (same_goal (ToCell Halt)) (same_goal (ToMemory wn an)) = refl
-same_places g h k l (same_goal (ToCell Halt)) (both_registers n nx) = refl
-same_places g h k l (same_goal (ToCell Halt)) (stores wn an bn ln) = refl
-same_places g h k l (same_goal (ToCell (Hole m))) (same_goal (ToCell (Hard n))) = refl
-same_places g h k l (same_goal (ToCell (Hole m))) (same_goal (ToCell (Temp n))) = refl
-same_places g h k l (same_goal (ToCell (Hole m))) (same_goal (ToCell (Flag n))) = refl
-same_places g h k l (same_goal (ToCell (Hole m))) (same_goal (ToCell Pc)) = refl
-same_places g h k l (same_goal (ToCell (Hole m))) (same_goal (ToCell Input)) = refl
-same_places g h k l (same_goal (ToCell (Hole m))) (same_goal (ToCell Output)) = refl
-same_places g h k l (same_goal (ToCell (Hole m))) (same_goal (ToCell Halt)) = refl
-same_places g h k l (same_goal (ToCell (Hole m))) (same_goal (ToCell (Hole n))) = refl
-same_places g h k l (same_goal (ToCell (Hole m))) (same_goal (ToMemory wn an)) = refl
-same_places g h k l (same_goal (ToCell (Hole m))) (both_registers n nx) = refl
-same_places g h k l (same_goal (ToCell (Hole m))) (stores wn an bn ln) = refl
-same_places g h k l (same_goal (ToMemory wm am)) (same_goal (ToCell (Hard n))) = refl
-same_places g h k l (same_goal (ToMemory wm am)) (same_goal (ToCell (Temp n))) = refl
-same_places g h k l (same_goal (ToMemory wm am)) (same_goal (ToCell (Flag n))) = refl
-same_places g h k l (same_goal (ToMemory wm am)) (same_goal (ToCell Pc)) = refl
-same_places g h k l (same_goal (ToMemory wm am)) (same_goal (ToCell Input)) = refl
-same_places g h k l (same_goal (ToMemory wm am)) (same_goal (ToCell Output)) = refl
-same_places g h k l (same_goal (ToMemory wm am)) (same_goal (ToCell Halt)) = refl
-same_places g h k l (same_goal (ToMemory wm am)) (same_goal (ToCell (Hole n))) = refl
-same_places g h k l (same_goal (ToMemory wm am)) (same_goal (ToMemory wn an)) = refl
-same_places g h k l (same_goal (ToMemory wm am)) (both_registers n nx) = refl
-same_places g h k l (same_goal (ToMemory wm am)) (stores wn an bn ln) = refl
-same_places g h k l (both_registers m mx) (same_goal (ToCell (Hard n))) = refl
-same_places g h k l (both_registers m mx) (same_goal (ToCell (Temp n))) = refl
-same_places g h k l (both_registers m mx) (same_goal (ToCell (Flag n))) = refl
-same_places g h k l (both_registers m mx) (same_goal (ToCell Pc)) = refl
-same_places g h k l (both_registers m mx) (same_goal (ToCell Input)) = refl
-same_places g h k l (both_registers m mx) (same_goal (ToCell Output)) = refl
-same_places g h k l (both_registers m mx) (same_goal (ToCell Halt)) = refl
-same_places g h k l (both_registers m mx) (same_goal (ToCell (Hole n))) = refl
-same_places g h k l (both_registers m mx) (same_goal (ToMemory wn an)) = refl
-same_places g h k l (both_registers m mx) (both_registers n nx) = refl
-same_places g h k l (both_registers m mx) (stores wn an bn ln) = refl
-same_places g h k l (stores wm am bm lm) (same_goal (ToCell (Hard n))) = refl
-same_places g h k l (stores wm am bm lm) (same_goal (ToCell (Temp n))) = refl
-same_places g h k l (stores wm am bm lm) (same_goal (ToCell (Flag n))) = refl
-same_places g h k l (stores wm am bm lm) (same_goal (ToCell Pc)) = refl
-same_places g h k l (stores wm am bm lm) (same_goal (ToCell Input)) = refl
-same_places g h k l (stores wm am bm lm) (same_goal (ToCell Output)) = refl
-same_places g h k l (stores wm am bm lm) (same_goal (ToCell Halt)) = refl
-same_places g h k l (stores wm am bm lm) (same_goal (ToCell (Hole n))) = refl
-same_places g h k l (stores wm am bm lm) (same_goal (ToMemory wn an)) = refl
-same_places g h k l (stores wm am bm lm) (both_registers n nx) = refl
-same_places g h k l (stores wm am bm lm) (stores wn an bn ln) = refl
+same_places g h k l (both_registers m n) q = same_by_hole m n h l q
+same_places g h k l (stores w a b v) q = refl
+same_places g h k l (same_goal (ToMemory w a)) q = refl
+same_places g h k l (same_goal (ToCell (Hole n))) q = same_by_hole n n h l q
+same_places g h k l (same_goal (ToCell (Hard n))) q = same_by_other (Hard n) h l q refl
+same_places g h k l (same_goal (ToCell (Temp n))) q = same_by_other (Temp n) h l q refl
+same_places g h k l (same_goal (ToCell (Flag n))) q = same_by_other (Flag n) h l q refl
+same_places g h k l (same_goal (ToCell Pc)) q = same_by_other Pc h l q refl
+same_places g h k l (same_goal (ToCell Input)) q = same_by_other Input h l q refl
+same_places g h k l (same_goal (ToCell Output)) q = same_by_other Output h l q refl
+same_places g h k l (same_goal (ToCell Halt)) q = same_by_other Halt h l q refl
 
 same_apart : (few : Type 0) (m n : Move) (f g : Filled) → IsFilled few m f → IsFilled few n g → filled_apart f g ≡ set_apart m n
 same_apart few m n f g p q =
     let places : same_place f.register g.register (same_goal_cell f.assign.to g.assign.to) ≡ same_goal_cell m.to n.to =
-        ap (λ x. same_place x g.register (same_goal_cell f.assign.to g.assign.to)) p.register
-        ∙ ap (λ x. same_place (hole_of_goal m.to) x (same_goal_cell f.assign.to g.assign.to)) q.register
-        ∙ same_places m.to n.to f.assign.to g.assign.to p.like_to q.like_to in
+    ap (λ x. same_place x g.register (same_goal_cell f.assign.to g.assign.to)) p.register
+    ∙ ap (λ x. same_place (hole_of_goal m.to) x (same_goal_cell f.assign.to g.assign.to)) q.register
+    ∙ same_places m.to n.to f.assign.to g.assign.to p.like_to q.like_to in
     both (not (same_place f.register g.register (same_goal_cell f.assign.to g.assign.to))) (not (is_construct Taken f.assign.value && is_construct Taken g.assign.value))
     (not (same_goal_cell m.to n.to)) (not (is_construct Taken m.value && is_construct Taken n.value))
     (ap not places)
     (ap not (both (is_construct Taken f.assign.value) (is_construct Taken g.assign.value) (is_construct Taken m.value) (is_construct Taken n.value)
-      (sym (same_construct Taken m.value f.assign.value p.like_value)) (sym (same_construct Taken n.value g.assign.value q.like_value))))
+    (sym (same_construct Taken m.value f.assign.value p.like_value)) (sym (same_construct Taken n.value g.assign.value q.like_value))))
 
 same_store : (g h : Goal) → IsLikeGoal g h → is_store g ≡ is_store h
 same_store g h (same_goal k) = refl
@@ -383,7 +299,7 @@ same_move_temporaries : (m n : Move) → IsLikeGoal m.to n.to → IsLike m.value
 same_move_temporaries m n g v =
     list_any-append is_temporary (cells_of_goal m.to) (cells_in m.value)
     ∙ either (list_any is_temporary (cells_of_goal m.to)) (list_any is_temporary (cells_in m.value)) (list_any is_temporary (cells_of_goal n.to)) (list_any is_temporary (cells_in n.value))
-      (same_goal_temporaries m.to n.to g) (same_temporaries m.value n.value v)
+    (same_goal_temporaries m.to n.to g) (same_temporaries m.value n.value v)
     ∙ sym (list_any-append is_temporary (cells_of_goal n.to) (cells_in n.value))
 
 as_long : (few : Type 0) (ms : List Move) (fs : List Filled) → AllFilled few ms fs → length ms ≡ length fs
@@ -406,19 +322,20 @@ same_store_count few [] [] a = refl
 same_store_count few [] (f ∷ fs) a = absurd a
 same_store_count few (m ∷ ms) [] a = absurd a
 same_store_count few (m ∷ ms) (f ∷ fs) a =
-    ap (λ b. cond b 1 0 + count_by (λ n. is_store n.to) ms) (same_store m.to f.assign.to a.0.like_to)
+    sum_by-cons (λ (n : Move). cond (is_store n.to) 1 0) m ms
+    ∙ ap (λ b. cond b 1 0 + count_by (λ n. is_store n.to) ms) (same_store m.to f.assign.to a.0.like_to)
     ∙ ap (λ n. cond (is_store f.assign.to) 1 0 + n) (same_store_count few ms fs a.1)
+    ∙ sym (sum_by-cons (λ (g : Filled). cond (is_store g.assign.to) 1 0) f fs)
 
 same_all_temporaries : (few : Type 0) (ms : List Move) (fs : List Filled) → AllFilled few ms fs
-    → list_any is_temporary (flat_map cells_of_move ms) ≡ list_any is_temporary (flat_map (λ f. cells_of_move f.assign) fs)
+    → list_any is_temporary (flat_map cells_of_move ms) ≡ list_any uses_temporary fs
 same_all_temporaries few [] [] a = refl
 same_all_temporaries few [] (f ∷ fs) a = absurd a
 same_all_temporaries few (m ∷ ms) [] a = absurd a
 same_all_temporaries few (m ∷ ms) (f ∷ fs) a =
     list_any-append is_temporary (cells_of_move m) (flat_map cells_of_move ms)
-    ∙ either (list_any is_temporary (cells_of_move m)) (list_any is_temporary (flat_map cells_of_move ms)) (list_any is_temporary (cells_of_move f.assign)) (list_any is_temporary (flat_map (λ g. cells_of_move g.assign) fs))
-      (same_move_temporaries m f.assign a.0.like_to a.0.like_value) (same_all_temporaries few ms fs a.1)
-    ∙ sym (list_any-append is_temporary (cells_of_move f.assign) (flat_map (λ g. cells_of_move g.assign) fs))
+    ∙ either (list_any is_temporary (cells_of_move m)) (list_any is_temporary (flat_map cells_of_move ms)) (uses_temporary f) (list_any uses_temporary fs)
+    (same_move_temporaries m f.assign a.0.like_to a.0.like_value) (same_all_temporaries few ms fs a.1)
 
 pub well_by_good : (few : Type 0) (ms : List Move) (fs : List Filled) → AllFilled few ms fs → AreGood fs → IsWellFormed ms
 well_by_good few ms fs a g =
@@ -435,7 +352,7 @@ well_by_good few ms fs a g =
           let e : Filled = record { assign = d; register = None } in
           let inside : j < length fs = omega (arith, long, lt) in
           sym (same_apart few (slice_index_or ms i d) (slice_index_or ms j d) (slice_index_or fs i e) (slice_index_or fs j e)
-            (filled_at few ms fs i d e a (omega (arith, less, inside))) (filled_at few ms fs j d e a inside))
+          (filled_at few ms fs i d e a (omega (arith, less, inside))) (filled_at few ms fs j d e a inside))
           ∙ g.once i j e less inside;
       one_store = let same = same_store_count few ms fs a in omega (arith, same, g.one_store);
     }
@@ -452,7 +369,7 @@ good_by_well few ms fs a w t =
           placed_like (slice_index_or ms k e.assign) (slice_index_or fs k e).assign like.like_to like.like_value (w.placed k e.assign (omega (arith, long, lt)));
       once = λ i j e less lt.
           same_apart few (slice_index_or ms i e.assign) (slice_index_or ms j e.assign) (slice_index_or fs i e) (slice_index_or fs j e)
-            (filled_at few ms fs i e.assign e a (omega (arith, less, lt))) (filled_at few ms fs j e.assign e a lt)
+          (filled_at few ms fs i e.assign e a (omega (arith, less, lt))) (filled_at few ms fs j e.assign e a lt)
           ∙ w.once i j e.assign less (omega (arith, long, lt));
       one_store = let same = same_store_count few ms fs a in omega (arith, same, w.one_store);
       no_temporary = sym (same_all_temporaries few ms fs a) ∙ t;
@@ -463,17 +380,18 @@ good_both : (few : Type 0) (r : Row) (t : Option (List Move)) (v : Option (Vec F
 good_both few r None None e b = (λ g. absurd g, λ h. let never : Some h.moves ≡ None = sym h.transfer ∙ e in absurd (cc))
 good_both few r None (Some v) e b = absurd b
 good_both few r (Some ms) None e b = absurd b
-good_both few r (Some ms) (Some v) e b =
-    (λ g. record {
-      moves = ms;
-      transfer = e;
-      well_formed = well_by_good few ms v.items b g;
-      no_temporary = same_all_temporaries few ms v.items b ∙ g.no_temporary;
-    },
-    λ h.
-    let both_are : Some h.moves ≡ Some ms = sym h.transfer ∙ e in
-    let same : h.moves ≡ ms = cc in
-    good_by_well few ms v.items b (subst IsWellFormed same h.well_formed) (subst (λ xs. list_any is_temporary (flat_map cells_of_move xs) ≡ false) same h.no_temporary))
+good_both few r (Some ms) (Some v) e b = (
+  λ g. record {
+    moves = ms;
+    transfer = e;
+    well_formed = well_by_good few ms v.items b g;
+    no_temporary = same_all_temporaries few ms v.items b ∙ g.no_temporary;
+  },
+  λ h.
+      let both_are : Some h.moves ≡ Some ms = sym h.transfer ∙ e in
+      let same : h.moves ≡ ms = cc in
+      good_by_well few ms v.items b (subst IsWellFormed same h.well_formed) (subst (λ xs. list_any is_temporary (flat_map cells_of_move xs) ≡ false) same h.no_temporary),
+)
 
 pub good_row : (r : Row) (e : Expanded) → IsExpanded r e → IsGood e.transfer ↔ HasGoodTransfer r
 good_row r e x = good_both _ r r.transfer e.transfer refl x.transfer

@@ -4,7 +4,7 @@ ghost use Rattle.std.specs.Prelude.{◌≡◌, ◌↔◌, IsTrue, List};
 ghost use Rattle.md_text.specs.Expansion.{Expanded as Row};
 ghost use Rattle.md_expand.specs.Expanded.{IsExpanded, AllExpanded};
 ghost use Rattle.md_rules.specs.Least.{IsLeast};
-ghost use Rattle.md_reader.specs.RowRules.{IsBroken, HasBrokenAmong, sooner};
+ghost use Rattle.md_row_rules.specs.RowRules.{IsBroken, HasBrokenAmong, sooner};
 
 use crate::transfers::has_good_transfer;
 use md_expand::{Expanded, is_too_large};

@@ -1,0 +1,2 @@
+pub mod RowRules
+pub mod Goods

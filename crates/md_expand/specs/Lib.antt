@@ -6,3 +6,4 @@ pub mod Fillings
 pub mod Filled
 pub mod Expanded
 pub mod Product
+pub mod Limits

@@ -59,6 +59,7 @@ unless_never (Some v) twice = by (sizes (length v.items))
   where
     sizes : (n : ℕ) → ((0 < n) × (n ≤ 6)) ⊎ ((n ≡ 0) ⊎ (6 < n))
     sizes n = grind arith
+
     by : HasOneToSix (Some v) ⊎ ((length v.items ≡ 0) ⊎ (6 < length v.items)) → HasOneToSix (Some v)
     by (inl h) = h
     by (inr (inl none)) = absurd (twice (λ h. omega (arith, h.0, none)))

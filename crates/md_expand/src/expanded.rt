@@ -18,7 +18,7 @@ use md_forms::{OpenTransfer, Piece};
 use rtl_tree::NoMemory;
 use std::alloc::Global;
 
-/// A row without modes. It has no transfer where a hole would stand as a place that can be none.
+/// A row without modes. It has no transfer where something would be assigned that is no place, such as a number.
 #[derive(Debug, Drop)]
 pub struct Expanded {
     pub line: u32,

@@ -16,7 +16,7 @@ use md_forms::Said;
 use rtl_tree::{Assign, Cell, Expr, NoMemory, Place, copy};
 use std::alloc::Global;
 
-/// An assignment without modes, with the number of the register hole that it assigns.
+/// An assignment without modes, and the number of the register's hole that it assigns, if it assigns one.
 #[derive(Debug, Drop)]
 pub struct Filled {
     pub assign: Assign,

@@ -14,7 +14,7 @@ use rtl_tree::NoMemory;
 use sqlite_items::Items;
 use std::alloc::Global;
 
-/// A token, or a hole.
+/// A piece of a text without modes: a token, or a hole.
 #[derive(Debug, Drop)]
 pub enum Shown {
     Name(Items<u8>),
@@ -43,7 +43,7 @@ fn high_end(width: u32, range: Range) -> i64
     }
 }
 
-/// What a hole takes that is for no mode.
+/// What a hole takes that is for no mode; a class that isn't declared has no registers.
 pub fn taken_by(scope: &Scope<'_>, kind: &Kind) -> Hole
     ensures { result ≡ taken_by scope.now.width (declared_in scope.now) (kind_of kind.now) }
 {

@@ -36,7 +36,7 @@ module _ (rs : List Register) (holes : List Hole) where
   literals_take (Mark c ∷ ts) = omega (arith, literals_take ts)
 
   literals_before : (ts : List Token) (ps : List Piece) → spaced_bytes (map piece_of ts ++ ps) ≡ spaced_length ts + spaced_bytes ps
-  literals_before [] ps = refl
+  literals_before [] ps = omega arith
   literals_before (Name w ∷ ts) ps = omega (arith, literals_before ts ps)
   literals_before (Number z ∷ ts) ps = omega (arith, literals_before ts ps)
   literals_before (Mark c ∷ ts) ps = omega (arith, literals_before ts ps)

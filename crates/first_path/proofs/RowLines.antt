@@ -6,8 +6,8 @@ use Rattle.md_rows.specs.declared.row.Hole.{Hole}
 use Rattle.md_rows.specs.declared.row.Piece.{Piece}
 use Rattle.md_rows.specs.declared.row.Piece.TheVariants.{Hole as HolePiece}
 use Rattle.md_rows.specs.Lines.{piece_bytes, is_word, space_bytes, bytes_after, longest_line}
-use Rattle.first_path.specs.FirstDescription.{FirstForm, piece_of, word_hole}
-use Rattle.first_path.proofs.LineLengths.{AreShort, spaced_length}
+use Rattle.first_path.specs.FirstDescription.{piece_of, word_hole}
+use Rattle.first_path.proofs.LineLengths.{spaced_length}
 
 module _ (rs : List Register) (holes : List Hole) where
   -- the most bytes that the pieces print, with a space after each

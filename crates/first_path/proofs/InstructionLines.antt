@@ -77,13 +77,28 @@ module _ (f : FirstForm) (l : HasLiterals f) where
       (and_from (nat_lt n (2 ^ f.word)) (is_some (printed_word f.word n)) (lt-ltb n (2 ^ f.word) (omega arith)) (ap is_some (prints n h)), tt)
 
   set_is : (n : ℕ) → n ≤ 32767 → IsInstance (description_of f) (set_to n) (set_row f)
-  set_is n h = record { has_row = refl; short = round_hole_within (description_of f).registers f.word f.before_hole f.after_hole l.short.set; fit = fits_hole (general_set (description_of f).registers) n h; different = λ i j d a b. absurd (omega arith) }
+  set_is n h = record {
+    has_row = refl;
+    short = round_hole_within (description_of f).registers f.word f.before_hole f.after_hole l.short.set;
+    fit = fits_hole (general_set (description_of f).registers) n h;
+    different = λ i j d a b. absurd (omega arith);
+  }
 
   put_is : IsInstance (description_of f) put (put_row f)
-  put_is = record { has_row = refl; short = literals_within (description_of f).registers [] f.put l.short.put; fit = tt; different = λ i j d a b. absurd (omega arith) }
+  put_is = record {
+    has_row = refl;
+    short = literals_within (description_of f).registers [] f.put l.short.put;
+    fit = tt;
+    different = λ i j d a b. absurd (omega arith);
+  }
 
   end_is : IsInstance (description_of f) finish (end_row f)
-  end_is = record { has_row = refl; short = literals_within (description_of f).registers [] f.«end» l.short.«end»; fit = tt; different = λ i j d a b. absurd (omega arith) }
+  end_is = record {
+    has_row = refl;
+    short = literals_within (description_of f).registers [] f.«end» l.short.«end»;
+    fit = tt;
+    different = λ i j d a b. absurd (omega arith);
+  }
 
   set_begins : (z : ℤ) → BeginsWith (set_tokens f z) l.names.set_name
   set_begins z = begins_more f.before_hole (Number z ∷ f.after_hole) l.names.set_name l.names.set_begins

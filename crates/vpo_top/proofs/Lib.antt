@@ -1,25 +1,2 @@
 mod Reports
-mod Lines
-pub mod SourceText
-mod DescriptionSplits
-mod DescriptionTenLines
-mod DescriptionTokens
-mod DescriptionHeading
-mod DescriptionRows
-mod DescriptionPieces
-mod DescriptionWhole
-mod DescriptionNames
-mod DescriptionFound
-pub mod SourceRunLaws
 mod Outcomes
-pub mod HoleNumbers
-pub mod RowTokens
-pub mod NoLineFeed
-pub mod LineLengths
-pub mod TextLines
-pub mod InstructionLines
-pub mod Turns
-pub mod MachinePrints
-pub mod MachineEnds
-pub mod CompiledTo
-pub mod TextPrograms

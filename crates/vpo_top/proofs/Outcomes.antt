@@ -8,13 +8,13 @@ use Rattle.vp_io.specs.declared.answers.Which.TheVariants.{Description, Text, As
 use Rattle.vp_io.specs.declared.answers.Outcome.{Outcome}
 use Rattle.vp_io.specs.declared.answers.Outcome.TheVariants.{Done, BadDescription, BadSource, ReadFault, WriteFault}
 use Rattle.md_rows.specs.declared.description.RawDescription.{RawDescription}
-use Rattle.vpo_top.specs.declared.source.SourceProgram.{SourceProgram}
-use Rattle.vpo_top.specs.FirstDescription.{IsDescription}
-use Rattle.vpo_top.specs.Source.{SpellsSource}
+use Rattle.first_path.specs.declared.source.SourceProgram.{SourceProgram}
+use Rattle.first_path.specs.FirstDescription.{IsDescription}
+use Rattle.first_path.specs.Source.{SpellsSource}
 use Rattle.vpo_top.specs.Judgement.{byte_limit, not_built, IsDescribedBy, IsSpelledBy, IsAcceptedDescription, IsAcceptedSource, Judges, JudgesDescription, JudgesSource, IsRefusalOfSource, HasFetchCause, OfFiles}
-use Rattle.vpo_top.specs.Compiled.{compiled_text}
-use Rattle.vpo_top.specs.Headline.{IsCompiledTo}
-use Rattle.vpo_top.proofs.CompiledTo.{compiled_to}
+use Rattle.first_path.specs.Compiled.{compiled_text}
+use Rattle.first_path.specs.Theorem.{IsCompiledTo}
+use Rattle.first_path.proofs.CompiledTo.{compiled_to}
 
 -- the bytes that were fetched are no description
 pub description_refused : (told : Told) (name text : List ℕ) → OfFile told name (λ file. text ≡ file) → length text ≤ byte_limit

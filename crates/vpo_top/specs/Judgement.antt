@@ -8,9 +8,9 @@ use Rattle.vp_io.specs.declared.answers.Which.TheVariants.{Description, Text}
 use Rattle.vp_io.specs.declared.answers.Outcome.{Outcome}
 use Rattle.vp_io.specs.declared.answers.Outcome.TheVariants.{Done, NoMemory, FileTooLong, BadDescription, BadSource, ReadFault, WriteFault}
 use Rattle.md_rows.specs.declared.description.RawDescription.{RawDescription}
-use Rattle.vpo_top.specs.declared.source.SourceProgram.{SourceProgram}
-use Rattle.vpo_top.specs.FirstDescription.{IsDescription}
-use Rattle.vpo_top.specs.Source.{SpellsSource}
+use Rattle.first_path.specs.declared.source.SourceProgram.{SourceProgram}
+use Rattle.first_path.specs.FirstDescription.{IsDescription}
+use Rattle.first_path.specs.Source.{SpellsSource}
 
 -- the most bytes of a description, and of a source
 abbrev pub byte_limit : ℕ

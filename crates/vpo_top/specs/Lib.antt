@@ -1,16 +1,4 @@
 pub mod Request
-pub mod FirstDescription
-pub mod Assembly
-pub mod MachineRun
 pub mod Messages
-pub mod Spacing
-pub mod Compiled
-pub mod DescriptionLines
-pub mod DescriptionParts
-pub mod DescriptionLaw
 pub mod Headline
 pub mod Judgement
-pub mod Source
-pub mod SourceReading
-pub mod SourceRun
-pub mod Theorem

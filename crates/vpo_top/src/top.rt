@@ -6,13 +6,14 @@ ghost use Rattle.vp_io.specs.Files.{OfFile, CountsOnly, RoseBy};
 ghost use Rattle.vpo_top.specs.Request.{request_of, bytes_of_words, ForCompilation};
 ghost use Rattle.vpo_top.specs.Messages.{IsReported};
 ghost use Rattle.vpo_top.specs.Judgement.{byte_limit, IsDescribedBy, IsSpelledBy, IsFetchRefusal, IsAcceptedDescription, IsAcceptedSource, IsRefusalOfDescription, JudgesDescription, IsRefusalOfSource, JudgesSource, Judges, HasFetchCause, HasOutsideCause, IsRefusal, IsOfCompilation, OfFiles, CountsOnlyOf};
-ghost use Rattle.vpo_top.specs.Headline.{IsCompiledTo, IsWritten};
+ghost use Rattle.first_path.specs.Theorem.{IsCompiledTo};
+ghost use Rattle.vpo_top.specs.Headline.{IsWritten};
 
-use crate::assembly::write_assembly;
-use crate::description::{DescriptionFault, read_description};
 use crate::report::report;
 use crate::request::{Request, read_request};
-use crate::source::{SourceFault, SourceProgram, read_source};
+use first_path::assembly::write_assembly;
+use first_path::description::{DescriptionFault, read_description};
+use first_path::source::{SourceFault, SourceProgram, read_source};
 use md_rows::RawDescription;
 use std::alloc::Global;
 use vp_io::{FetchFault, Files, Outcome, Reason, Sink, Source, Which, fetch_whole, write_whole};

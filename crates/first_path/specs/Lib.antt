@@ -1,0 +1,12 @@
+pub mod FirstDescription
+pub mod Assembly
+pub mod MachineRun
+pub mod Spacing
+pub mod Compiled
+pub mod DescriptionLines
+pub mod DescriptionParts
+pub mod DescriptionLaw
+pub mod Source
+pub mod SourceReading
+pub mod SourceRun
+pub mod Theorem

@@ -77,10 +77,11 @@ fn clears<W: Word>(d: &RawDescription) -> bool
         )
 }
 
-fn branches_by<W: Word>(d: &RawDescription, relation: Rel, flag: u8) -> bool
+/// Whether a row makes the comparison of a branch by this flag.
+fn compares_into<W: Word>(d: &RawDescription, flag: u8) -> bool
     requires word { d.now.word ≡ W.BITS }
     requires rows { AreReadRows W.BITS d.now.rows }
-    ensures { IsTrue result ↔ (IsCovered d.now (shape 20 1 Eq flag) × IsCovered d.now (shape 20 2 relation flag)) }
+    ensures { IsTrue result ↔ IsCovered d.now (shape 20 1 Eq flag) }
 {
     is_covered::<W>(
         d,
@@ -90,7 +91,16 @@ fn branches_by<W: Word>(d: &RawDescription, relation: Rel, flag: u8) -> bool
             relation: Rel::Eq,
             flag,
         },
-    ) && is_covered::<W>(
+    )
+}
+
+/// Whether a row makes the jump of a branch by this flag.
+fn jumps_by<W: Word>(d: &RawDescription, relation: Rel, flag: u8) -> bool
+    requires word { d.now.word ≡ W.BITS }
+    requires rows { AreReadRows W.BITS d.now.rows }
+    ensures { IsTrue result ↔ IsCovered d.now (shape 20 2 relation flag) }
+{
+    is_covered::<W>(
         d,
         Shape {
             number: 20,
@@ -99,6 +109,14 @@ fn branches_by<W: Word>(d: &RawDescription, relation: Rel, flag: u8) -> bool
             flag,
         },
     )
+}
+
+fn branches_by<W: Word>(d: &RawDescription, relation: Rel, flag: u8) -> bool
+    requires word { d.now.word ≡ W.BITS }
+    requires rows { AreReadRows W.BITS d.now.rows }
+    ensures { IsTrue result ↔ (IsCovered d.now (shape 20 1 Eq flag) × IsCovered d.now (shape 20 2 relation flag)) }
+{
+    compares_into::<W>(d, flag) && jumps_by::<W>(d, relation, flag)
 }
 
 fn branches_by_flag<W: Word>(d: &RawDescription, relation: Rel) -> bool

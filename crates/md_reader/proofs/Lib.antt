@@ -1,3 +1,4 @@
 pub mod Joined
 pub mod Whole
 pub mod Lists
+pub mod Declarations

@@ -21,7 +21,7 @@ pub fn described(
     declared: &Declared,
     rows: &[Expanded],
 ) -> Result<RawDescription, NoMemory>
-    requires { AllExpanded (expansions declared.now.width (declarations_of declared.now.all.now)) rows.now }
+    requires { AllExpanded (expansions declared.now.width (declarations_of declared.now.all)) rows.now }
     ensures { IfOk result (λ d. d ≡ description_of (declared_of declared.now)) }
 {
     let all = declared.all.as_slice();

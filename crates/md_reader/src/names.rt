@@ -16,7 +16,7 @@ fn with_register(
     mut registers: Items<Register>,
     declaration: &Declaration,
 ) -> Result<Items<Register>, NoMemory>
-    ensures { IfOk result (λ more. more ≡ registers.entry ++ registers_in (declaration_of declaration.now ∷ [])) }
+    ensures { IfOk result (λ more. more ≡ registers ++ registers_in (declaration_of declaration.now ∷ [])) }
 {
     if let Form::RegisterLine { number, name, role } = &declaration.form {
         registers.push(Register {
@@ -43,7 +43,7 @@ fn with_flag(
     mut flags: Items<FlagName>,
     declaration: &Declaration,
 ) -> Result<Items<FlagName>, NoMemory>
-    ensures { IfOk result (λ more. more ≡ flags.entry ++ flags_in (declaration_of declaration.now ∷ [])) }
+    ensures { IfOk result (λ more. more ≡ flags ++ flags_in (declaration_of declaration.now ∷ [])) }
 {
     if let Form::FlagLine { number, name } = &declaration.form {
         flags.push(FlagName {

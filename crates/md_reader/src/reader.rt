@@ -1,12 +1,14 @@
 //! Whole texts.
 
-ghost use Rattle.std.specs.Prelude.{◌≡◌, ◌≤◌, ◌-◌, ◌^◌, ℕ, List, length, IfOk, IsErrOf, None, Some};
+ghost use Rattle.std.specs.Prelude.{◌≡◌, ◌≤◌, ◌-◌, ◌^◌, length, take, IfOk, IsErrOf, None, Some};
 ghost use Rattle.vp_io.specs.declared.answers.Reason.{Reason as Telling};
+ghost use Rattle.md_text.specs.Expansion.{expansions};
 ghost use Rattle.md_text.specs.Accepted.{Says, description_of};
 ghost use Rattle.md_forms.specs.declared.rules.Told.{Told as Broken};
-ghost use Rattle.md_forms.specs.Seen.{declared_of};
+ghost use Rattle.md_forms.specs.Seen.{declarations_of, declared_of};
 ghost use Rattle.md_rules.specs.Least.{IsNumbered};
 ghost use Rattle.md_rules.specs.Broken.{IsFirst};
+ghost use Rattle.md_expand.specs.Expanded.{AllExpanded};
 ghost use Rattle.md_reader.specs.Refused.{IsRefused};
 
 use crate::described::described;
@@ -41,7 +43,7 @@ impl From<NoMemory> for Trouble {
 /// The first rows without modes, one more than there may be.
 fn first_rows(alloc: Global, declared: &Declared) -> Result<Vec<Expanded>, NoMemory>
     requires { IsNumbered (declared_of declared.now) }
-    ensures { IfOk result (λ rows. AllExpanded (take 4097 (expansions declared.now.width (declarations_of declared.now.all.now))) rows.items) }
+    ensures { IfOk result (λ rows. AllExpanded (take 4097 (expansions declared.now.width (declarations_of declared.now.all))) rows.items) }
 {
     let all = declared.all.as_slice();
     if !fit_in_64(all) {

@@ -34,7 +34,7 @@ fn pieces(
     number: u8,
     mut into: Items<Piece>,
 ) -> Result<Items<Piece>, NoMemory>
-    ensures { IfOk result (λ more. more ≡ into.entry ++ pieces_from number (all_shown text.now)) }
+    ensures { IfOk result (λ more. more ≡ into ++ pieces_from number (all_shown text.now)) }
 {
     match text {
         [] => Ok(into),

@@ -9,3 +9,6 @@ pub mod Choices
 pub mod OtherLines
 pub mod Counted
 pub mod LikeDepths
+pub mod Unbroken
+pub mod RegisterNumbers
+pub mod RowLimits

@@ -16,11 +16,12 @@ abbrev pub bits_among : List Register → Form → (List ℕ → Option ℕ) →
 bits_among rs (ClassLine class registers) before name = cond (bytes_eq class name) (Some (register_bits rs registers)) (before name)
 bits_among rs _ before name = before name
 
--- a register's number is below 64
+-- if it is a register's line, the number is below 64
 abbrev pub FitsIn64 : Form → Type 0
 FitsIn64 (RegisterLine k name role) = number_of k < 64
 FitsIn64 _ = Unit {0}
 
+-- each register's number is below 64
 abbrev pub FitIn64 : List Declaration → Type 0
 FitIn64 [] = Unit {0}
 FitIn64 (d ∷ ds) = FitsIn64 d.form × FitIn64 ds

@@ -1,6 +1,5 @@
 -- Rows of the program and those of texts.
-use Rattle.std.specs.Prelude.{◌≡◌, ◌≤◌, ℕ, List, [], ◌∷◌, length, Option, Some, None, option_map}
-use Rattle.std.specs.Prelude.{Bool, false}
+use Rattle.std.specs.Prelude.{◌≡◌, ◌≤◌, ℕ, Bool, false, List, [], ◌∷◌, length, Option, Some, None, option_map}
 use Rattle.std.specs.Global.{Vec}
 use Rattle.std.specs.List.{list_any}
 use Rattle.md_text.specs.Rules.{is_deep}
@@ -16,11 +15,13 @@ pub record IsExpanded (row : Row) (e : Expanded) : Type 0 where
   pub text : all_shown e.text.items ≡ row.text
   pub transfer : BothAllFilled (length (holes_in row.text) ≤ 256) row.transfer (option_map (λ v. v.items) e.transfer)
 
+-- row for row, the rows of the program stand for those of the text
 abbrev pub AllExpanded : List Row → List Expanded → Type 0
 AllExpanded [] [] = Unit {0}
 AllExpanded (row ∷ rows) (e ∷ es) = IsExpanded row e × AllExpanded rows es
 AllExpanded _ _ = ⊥
 
+-- the line of a row that may be there
 abbrev pub line_of : Option Expanded → Option ℕ
 line_of None = None
 line_of (Some e) = Some e.line

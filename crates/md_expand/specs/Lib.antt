@@ -3,6 +3,8 @@ pub mod Like
 pub mod Seen
 pub mod Meant
 pub mod Fillings
+pub mod Scope
 pub mod Filled
 pub mod Expanded
 pub mod Product
+pub mod Limits

@@ -1,4 +1,4 @@
--- Trees that are equal but for the numbers of their holes.
+-- Trees as they are but for the numbers of their holes.
 use Rattle.std.specs.Prelude.{ℕ, Option, Some, None}
 use Rattle.rtl_tree.specs.declared.cells.Cell.TheVariants.{Hole}
 use Rattle.rtl_tree.specs.declared.expressions.Width.{Width}
@@ -6,6 +6,7 @@ use Rattle.rtl_tree.specs.declared.expressions.UnOp.{UnOp}
 use Rattle.rtl_tree.specs.declared.expressions.BinOp.{BinOp}
 use Rattle.rtl_tree.specs.Trees.{Tree, Read, Load, Unary, Binary, AnyNumber, AnyName}
 
+-- trees that are equal but for the numbers of their holes
 pub data IsLike : Tree → Tree → Type 0 where
   equal : (a : Tree) → IsLike a a
   registers : (m n : ℕ) → IsLike (Read (Hole m)) (Read (Hole n))

@@ -1,10 +1,15 @@
 -- Leaves of the program and those of texts.
-use Rattle.std.specs.Prelude.{◌≡◌, ℕ, List, [], ◌∷◌, Option, None, option_and_then, slice_get}
+use Rattle.std.specs.Prelude.{◌≡◌, ℕ, List, [], ◌∷◌, Option, None, option_and_then, slice_get, unwrap_or}
 use Rattle.rtl_tree.specs.declared.cells.Cell.TheVariants.{Hole}
-use Rattle.rtl_tree.specs.Trees.{Tree, Read, tree_of}
+use Rattle.rtl_tree.specs.Trees.{Tree, Read, NoPair, tree_of}
 use Rattle.rtl_tree.specs.Moves.{Goal, ToCell}
+use Rattle.rtl_spelling.specs.Holes.{Open, leaf_named}
 use Rattle.md_expand.specs.Like.{IsLike, hole_in}
 use Rattle.md_expand.specs.declared.leaves.Meaning.{Meaning}
+
+-- the tree of the first hole of a name, and `lost` where there is none
+abbrev pub tree_named : List Open → List ℕ → Tree
+tree_named holes name = unwrap_or (leaf_named holes name) NoPair
 
 -- the meaning stands for a tree: it is like it, equal to it where the holes are few, and knows the number of a register's hole
 pub record IsMeant (few : Type 0) (t : Tree) (m : Meaning) : Type 0 where

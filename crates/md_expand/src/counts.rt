@@ -1,4 +1,4 @@
-//! Rows past the most that a description may have.
+//! The most rows of a description.
 
 ghost use Rattle.std.specs.Prelude.{◌≡◌, take};
 ghost use Rattle.std.specs.Option.{option_copied};
@@ -12,7 +12,7 @@ use crate::expanded::Expanded;
 use md_forms::Declared;
 use sqlite_items::at;
 
-/// The most rows without modes.
+/// The most rows that a description may have without modes.
 pub const MOST_ROWS: usize = 4096;
 
 fn line_of(row: Option<&Expanded>) -> Option<u32>
@@ -24,7 +24,7 @@ fn line_of(row: Option<&Expanded>) -> Option<u32>
     }
 }
 
-/// The line that passes the number of rows, by the first rows, one more than there may be.
+/// The line of the first row past the most, by the first `MOST_ROWS + 1` rows.
 pub fn passing_line(declared: &Declared, rows: &[Expanded]) -> Option<u32>
     requires { AllExpanded (take 4097 (expansions declared.now.width (declarations_of declared.now.all))) rows.now }
     ensures { IsLeast (HasTooMany (declared_of declared.now)) result }

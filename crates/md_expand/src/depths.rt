@@ -1,4 +1,4 @@
-//! Rows that are too large.
+//! Trees that are too deep.
 
 ghost use Rattle.std.specs.Prelude.{◌≡◌, nat_le, nat_lt, length};
 ghost use Rattle.std.specs.List.{list_any};

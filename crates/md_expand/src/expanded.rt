@@ -1,13 +1,13 @@
 //! A row without modes.
 
-ghost use Rattle.std.specs.Prelude.{◌≡◌, ◌++◌, ◌≤◌, map, length, option_map, IfOk};
+ghost use Rattle.std.specs.Prelude.{◌≡◌, ◌++◌, ◌≤◌, length, option_map, IfOk};
 ghost use Rattle.md_text.specs.Pieces.{slots};
-ghost use Rattle.md_text.specs.Expansion.{replaced, meant, expanded, transfer_with, shown, filling_of};
-ghost use Rattle.md_forms.specs.Seen.{pieces_of, declarations_of};
+ghost use Rattle.md_text.specs.Expansion.{replaced, expanded, transfer_with};
+ghost use Rattle.md_forms.specs.Seen.{pieces_of};
 ghost use Rattle.md_expand.specs.Seen.{all_shown};
-ghost use Rattle.md_expand.specs.Fillings.{filling_seen, all_seen, hole_total};
 ghost use Rattle.md_expand.specs.Filled.{BothAllFilled};
 ghost use Rattle.md_expand.specs.Expanded.{IsExpanded};
+ghost use Rattle.md_expand.specs.Scope.{filling_in, fillings_in, hole_total_in, row_holes};
 
 use crate::fillings::Filling;
 use crate::meanings::row_leaves;
@@ -18,7 +18,7 @@ use md_forms::{OpenTransfer, Piece};
 use rtl_tree::NoMemory;
 use std::alloc::Global;
 
-/// A row without modes. It has no transfer where a hole would stand as a place that can be none.
+/// A row without modes. It has no transfer where something would be assigned that is no place, such as a number.
 #[derive(Debug, Drop)]
 pub struct Expanded {
     pub line: u32,
@@ -32,7 +32,8 @@ fn push_filling(
     filling: &Filling<'_>,
     mut text: Vec<Shown>,
 ) -> Result<Vec<Shown>, NoMemory>
-    ensures { IfOk result (λ more. all_shown more.items ≡ all_shown text.items ++ (filling_seen scope.now.width (declarations_of scope.now.all.now) filling.now).text) }
+    ensures { IfOk result (λ more.
+        all_shown more.items ≡ all_shown text.items ++ (filling_in scope.now filling.now).text) }
 {
     match filling {
         Filling::Itself(hole) => text.push(Shown::Vacant(*hole))?,
@@ -51,7 +52,8 @@ fn push_replaced(
     chosen: &[Filling<'_>],
     mut text: Vec<Shown>,
 ) -> Result<Vec<Shown>, NoMemory>
-    ensures { IfOk result (λ more. all_shown more.items ≡ all_shown text.items ++ replaced (pieces_of pieces.now) (all_seen scope.now.width (declarations_of scope.now.all.now) chosen.now)) }
+    ensures { IfOk result (λ more. all_shown more.items
+        ≡ all_shown text.items ++ replaced (pieces_of pieces.now) (fillings_in scope.now chosen.now)) }
 {
     match pieces {
         [] => Ok(text),
@@ -76,8 +78,8 @@ fn transfer_with(
     transfer: &OpenTransfer,
     chosen: &[Filling<'_>],
 ) -> Result<Option<Vec<Filled>>, NoMemory>
-    ensures { IfOk result (λ fs. BothAllFilled (hole_total scope.now.width (declarations_of scope.now.all.now) chosen.now ≤ 256)
-        (transfer_with (meant 0 (slots (pieces_of text.now)) (all_seen scope.now.width (declarations_of scope.now.all.now) chosen.now)) transfer.now)
+    ensures { IfOk result (λ fs. BothAllFilled (hole_total_in scope.now chosen.now ≤ 256)
+        (transfer_with (row_holes scope.now 0 text.now chosen.now) transfer.now)
         (option_map (λ v. v.items) fs)) }
 {
     let leaves = row_leaves(alloc, scope, text, chosen, transfer.names.as_slice())?;
@@ -94,7 +96,8 @@ pub fn expand_row(
     chosen: &[Filling<'_>],
 ) -> Result<Expanded, NoMemory>
     requires { length chosen.now ≡ length (slots (pieces_of text.now)) }
-    ensures { IfOk result (λ e. IsExpanded (expanded line (pieces_of text.now) transfer.now (all_seen scope.now.width (declarations_of scope.now.all.now) chosen.now)) e) }
+    ensures { IfOk result (IsExpanded
+        (expanded line (pieces_of text.now) transfer.now (fillings_in scope.now chosen.now))) }
 {
     let shown = push_replaced(alloc, scope, text, chosen, Vec::new(alloc))?;
     let transfer = transfer_with(alloc, scope, text, transfer, chosen)?;

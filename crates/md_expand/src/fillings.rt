@@ -1,13 +1,11 @@
 //! What may stand in place of a hole.
 
-ghost use Rattle.std.specs.Prelude.{◌≡◌, ◌++◌, ◌∷◌, ◌<◌, ◌+◌, ◌≤◌, ◌^◌, [], map, length, unwrap_or, IfOk};
-ghost use Rattle.rtl_tree.specs.Trees.{NoPair};
-ghost use Rattle.rtl_spelling.specs.Holes.{leaf_named};
+ghost use Rattle.std.specs.Prelude.{◌≡◌, ◌++◌, ◌∷◌, [], map, length, IfOk};
 ghost use Rattle.md_text.specs.Pieces.{slots, Named};
-ghost use Rattle.md_text.specs.Expansion.{alternatives_of, filling_of, fillings, holes_from, holes_in, leaves_by};
-ghost use Rattle.md_forms.specs.Seen.{kind_of, pieces_of, form_of, declarations_of};
-ghost use Rattle.md_expand.specs.Fillings.{filling_seen, alternative_named};
-ghost use Rattle.md_expand.specs.Meant.{IsMeant, AllMeant};
+ghost use Rattle.md_text.specs.Expansion.{alternatives_of, filling_of, fillings, holes_in};
+ghost use Rattle.md_forms.specs.Seen.{kind_of, pieces_of, form_of};
+ghost use Rattle.md_expand.specs.Fillings.{alternative_named};
+ghost use Rattle.md_expand.specs.Scope.{declared_in, filling_in, fillings_in};
 
 use crate::leaves::{Meaning, leaf};
 use crate::scope::Scope;
@@ -35,9 +33,9 @@ fn with_alternative<'a>(
     form: &'a Form,
     name: &[u8],
 ) -> Result<Vec<Filling<'a>>, NoMemory>
-    ensures { IfOk result (λ more. map (filling_seen scope.now.width (declarations_of scope.now.all.now)) more.items
-        ≡ map (filling_seen scope.now.width (declarations_of scope.now.all.now)) found.entry.items
-        ++ alternative_named scope.now.width (declarations_of scope.now.all.now) name.now (form_of form.now)) }
+    ensures { IfOk result (λ more. fillings_in scope.now more.items
+        ≡ fillings_in scope.now found.entry.items
+        ++ alternative_named scope.now.width (declared_in scope.now) name.now (form_of form.now)) }
 {
     match form {
         Form::ModeLine {
@@ -63,8 +61,9 @@ fn alternatives_of<'a>(
     scope: &Scope<'a>,
     name: &[u8],
 ) -> Result<Vec<Filling<'a>>, NoMemory>
-    ensures { IfOk result (λ found. map (filling_seen scope.now.width (declarations_of scope.now.all.now)) found.items
-        ≡ map (filling_of scope.now.width (declarations_of scope.now.all.now)) (alternatives_of (declarations_of scope.now.all.now) name.now)) }
+    ensures { IfOk result (λ found. fillings_in scope.now found.items
+        ≡ map (filling_of scope.now.width (declared_in scope.now))
+        (alternatives_of (declared_in scope.now) name.now)) }
 {
     let mut found = Vec::new(alloc);
     for declaration in scope.all {
@@ -86,8 +85,8 @@ fn named_fillings<'a>(
     scope: &Scope<'a>,
     name: &[u8],
 ) -> Result<Vec<Filling<'a>>, NoMemory>
-    ensures { IfOk result (λ found. map (filling_seen scope.now.width (declarations_of scope.now.all.now)) found.items
-        ≡ fillings scope.now.width (declarations_of scope.now.all.now) (Named name.now)) }
+    ensures { IfOk result (λ found. fillings_in scope.now found.items
+        ≡ fillings scope.now.width (declared_in scope.now) (Named name.now)) }
 {
     let found = alternatives_of(alloc, scope, name)?;
     let count = found.len();
@@ -104,8 +103,8 @@ pub fn fillings<'a>(
     scope: &Scope<'a>,
     kind: &Kind,
 ) -> Result<Vec<Filling<'a>>, NoMemory>
-    ensures { IfOk result (λ found. map (filling_seen scope.now.width (declarations_of scope.now.all.now)) found.items
-        ≡ fillings scope.now.width (declarations_of scope.now.all.now) (kind_of kind.now)) }
+    ensures { IfOk result (λ found. fillings_in scope.now found.items
+        ≡ fillings scope.now.width (declared_in scope.now) (kind_of kind.now)) }
 {
     match kind {
         Kind::Named(name) => named_fillings(alloc, scope, name.as_slice()),
@@ -127,7 +126,7 @@ fn slot_count(text: &[Piece]) -> usize
 
 /// How many holes stand in a filling's text.
 pub fn hole_count(scope: &Scope<'_>, filling: &Filling<'_>) -> usize
-    ensures { result ≡ length (holes_in (filling_seen scope.now.width (declarations_of scope.now.all.now) filling.now).text) }
+    ensures { result ≡ length (holes_in (filling_in scope.now filling.now).text) }
 {
     match filling {
         Filling::Itself(_) => 1,

@@ -1,4 +1,4 @@
-//! The leaves that stand for holes.
+//! The leaves that stand for the holes of a row without modes.
 
 ghost use Rattle.std.specs.Prelude.{◌≡◌, ◌<◌};
 ghost use Rattle.rtl_tree.specs.Trees.{tree_of};
@@ -8,14 +8,15 @@ ghost use Rattle.md_expand.specs.Like.{IsLike, hole_in};
 use md_rows::Hole;
 use rtl_tree::{Cell, Expr};
 
-/// The leaf that stands for a hole, and the hole's number, if it is one for a register. A tree has numbers below 256 for its holes;
-/// a greater one, in whose place another stands, is of use for a row that is too large alone.
+/// What a hole means: a tree, and the number of the register's hole that the tree is, if it is one. A tree takes numbers below 256 for
+/// its holes. Where more holes stand in a row, which is too large then, the number beside it still tells one register from another.
 #[derive(Debug, Drop)]
 pub struct Meaning {
     pub tree: Expr,
     pub register: Option<usize>,
 }
 
+// A greater number becomes 255.
 fn narrowed(number: usize) -> u8
     ensures { number < 256 → result ≡ number }
 {

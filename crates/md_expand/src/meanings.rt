@@ -1,14 +1,13 @@
 //! What fillings mean.
 
-ghost use Rattle.std.specs.Prelude.{◌≡◌, ◌≢◌, ◌+◌, ◌≤◌, length, map, unwrap_or, option_and_then, slice_get, None, IfOk};
+ghost use Rattle.std.specs.Prelude.{◌≡◌, ◌+◌, ◌≤◌, length, option_and_then, slice_get, None, IfOk};
 ghost use Rattle.rtl_tree.specs.Trees.{tree_of, NoPair};
-ghost use Rattle.rtl_spelling.specs.Holes.{leaf_named};
 ghost use Rattle.md_text.specs.Pieces.{slots};
-ghost use Rattle.md_text.specs.Expansion.{with_leaves, holes_from, holes_in, leaves_by, meant, replaced};
-ghost use Rattle.md_forms.specs.Seen.{pieces_of, declarations_of};
+ghost use Rattle.md_text.specs.Expansion.{with_leaves, holes_in, leaves_by};
+ghost use Rattle.md_forms.specs.Seen.{pieces_of};
 ghost use Rattle.md_expand.specs.Seen.{trees_of};
-ghost use Rattle.md_expand.specs.Fillings.{filling_seen, all_seen, hole_total};
-ghost use Rattle.md_expand.specs.Meant.{IsMeant, AllMeant, register_in};
+ghost use Rattle.md_expand.specs.Scope.{filling_in, hole_total_in, slot_holes, row_holes};
+ghost use Rattle.md_expand.specs.Meant.{tree_named, IsMeant, AllMeant, register_in};
 
 use crate::fillings::{Filling, hole_count};
 use crate::leaves::{Meaning, leaf};
@@ -45,7 +44,7 @@ fn slot_leaf(
     name: &[u8],
 ) -> Result<Meaning, NoMemory>
     ensures { IfOk result (IsMeant (number + length (slots (pieces_of text.now)) ≤ 256)
-        (unwrap_or (leaf_named (holes_from scope.now.width (declarations_of scope.now.all.now) number (slots (pieces_of text.now))) name.now) NoPair)) }
+        (tree_named (slot_holes scope.now number text.now) name.now)) }
 {
     match text {
         [] => Ok(no_meaning()),
@@ -69,7 +68,7 @@ fn slot_leaves(
     names: &[Items<u8>],
 ) -> Result<Vec<Meaning>, NoMemory>
     ensures { IfOk result (λ leaves. AllMeant (number + length (slots (pieces_of text.now)) ≤ 256)
-        (leaves_by (holes_from scope.now.width (declarations_of scope.now.all.now) number (slots (pieces_of text.now))) names.now) leaves.items) }
+        (leaves_by (slot_holes scope.now number text.now) names.now) leaves.items) }
 {
     let mut leaves = Vec::new(alloc);
     for name in names {
@@ -116,7 +115,7 @@ fn alternative_meaning(
     tree: &OpenTree,
 ) -> Result<Meaning, NoMemory>
     ensures { IfOk result (IsMeant (number + length (slots (pieces_of text.now)) ≤ 256)
-        (with_leaves (leaves_by (holes_from scope.now.width (declarations_of scope.now.all.now) number (slots (pieces_of text.now))) tree.now.names) tree.now.tree)) }
+        (with_leaves (leaves_by (slot_holes scope.now number text.now) tree.now.names) tree.now.tree)) }
 {
     let leaves = slot_leaves(alloc, scope, text, number, tree.names.as_slice())?;
     meaning_with(alloc, &leaves, &tree.tree)
@@ -129,8 +128,8 @@ fn meaning(
     filling: &Filling<'_>,
     number: usize,
 ) -> Result<Meaning, NoMemory>
-    ensures { IfOk result (IsMeant (number + length (holes_in (filling_seen scope.now.width (declarations_of scope.now.all.now) filling.now).text) ≤ 256)
-        ((filling_seen scope.now.width (declarations_of scope.now.all.now) filling.now).tree number)) }
+    ensures { IfOk result (IsMeant (number + length (holes_in (filling_in scope.now filling.now).text) ≤ 256)
+        ((filling_in scope.now filling.now).tree number)) }
 {
     match filling {
         Filling::Itself(hole) => Ok(leaf(*hole, number)),
@@ -149,8 +148,8 @@ fn row_leaf(
     number: usize,
     name: &[u8],
 ) -> Result<Meaning, NoMemory>
-    ensures { IfOk result (IsMeant (number + hole_total scope.now.width (declarations_of scope.now.all.now) chosen.now ≤ 256)
-        (unwrap_or (leaf_named (meant number (slots (pieces_of text.now)) (all_seen scope.now.width (declarations_of scope.now.all.now) chosen.now)) name.now) NoPair)) }
+    ensures { IfOk result (IsMeant (number + hole_total_in scope.now chosen.now ≤ 256)
+        (tree_named (row_holes scope.now number text.now chosen.now) name.now)) }
 {
     match text {
         [] => Ok(no_meaning()),
@@ -177,8 +176,8 @@ pub fn row_leaves(
     chosen: &[Filling<'_>],
     names: &[Items<u8>],
 ) -> Result<Vec<Meaning>, NoMemory>
-    ensures { IfOk result (λ leaves. AllMeant (hole_total scope.now.width (declarations_of scope.now.all.now) chosen.now ≤ 256)
-        (leaves_by (meant 0 (slots (pieces_of text.now)) (all_seen scope.now.width (declarations_of scope.now.all.now) chosen.now)) names.now) leaves.items) }
+    ensures { IfOk result (λ leaves. AllMeant (hole_total_in scope.now chosen.now ≤ 256)
+        (leaves_by (row_holes scope.now 0 text.now chosen.now) names.now) leaves.items) }
 {
     let mut leaves = Vec::new(alloc);
     for name in names {

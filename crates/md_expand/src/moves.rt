@@ -16,7 +16,7 @@ use md_forms::Said;
 use rtl_tree::{Assign, Cell, Expr, NoMemory, Place, copy};
 use std::alloc::Global;
 
-/// An assignment without modes, with the number of the register hole that it assigns.
+/// An assignment without modes, and the number of the register's hole that it assigns, if it assigns one.
 #[derive(Debug, Drop)]
 pub struct Filled {
     pub assign: Assign,
@@ -35,7 +35,8 @@ fn place_of_leaf(leaf: Expr) -> Option<Place>
 }
 
 fn place_with(alloc: Global, leaves: &[Meaning], place: &Place) -> Result<Option<Place>, NoMemory>
-    ensures { IfOk result (λ to. option_map goal_of to ≡ goal_with (trees_of leaves.now) (goal_of place.now)) }
+    ensures { IfOk result (λ to.
+        option_map goal_of to ≡ goal_with (trees_of leaves.now) (goal_of place.now)) }
 {
     match place {
         Place::Cell(Cell::Hole(number)) => Ok(place_of_leaf(leaf_at(alloc, leaves, *number)?)),
@@ -62,8 +63,10 @@ fn filled_at(
     place: &Place,
     value: &Expr,
 ) -> Result<Option<Filled>, NoMemory>
-    ensures moves { IfOk result (λ f. option_map assign_of f ≡ move_with (trees_of leaves.now) (record { to = Some (goal_of place.now); value = tree_of value.now })) }
-    ensures registers { IfOk result (λ f. IfSome f (λ f. f.register ≡ goal_register leaves.now (goal_of place.now))) }
+    ensures moves { IfOk result (λ f. option_map assign_of f ≡ move_with (trees_of leaves.now)
+        (record { to = Some (goal_of place.now); value = tree_of value.now })) }
+    ensures registers { IfOk result (λ f.
+        IfSome f (λ f. f.register ≡ goal_register leaves.now (goal_of place.now))) }
 {
     match place_with(alloc, leaves, place)? {
         Some(to) => {
@@ -79,8 +82,10 @@ fn filled_at(
 
 /// An assignment with leaves in place of its holes, unless a leaf would stand as a place that is none.
 fn filled_said(alloc: Global, leaves: &[Meaning], said: &Said) -> Result<Option<Filled>, NoMemory>
-    ensures moves { IfOk result (λ f. option_map assign_of f ≡ move_with (trees_of leaves.now) said.now) }
-    ensures registers { IfOk result (λ f. IfSome f (λ f. f.register ≡ said_register leaves.now said.now.to)) }
+    ensures moves { IfOk result (λ f.
+        option_map assign_of f ≡ move_with (trees_of leaves.now) said.now) }
+    ensures registers { IfOk result (λ f.
+        IfSome f (λ f. f.register ≡ said_register leaves.now said.now.to)) }
 {
     match &said.to {
         Some(place) => filled_at(alloc, leaves, place, &said.value),
@@ -88,9 +93,10 @@ fn filled_said(alloc: Global, leaves: &[Meaning], said: &Said) -> Result<Option<
     }
 }
 
-/// The same, of a number of holes.
+/// An assignment that stands for the one that is meant, where leaves stand for those that are meant.
 fn filled_by(alloc: Global, leaves: &[Meaning], said: &Said) -> Result<Option<Filled>, NoMemory>
-    ensures { IfOk result (λ f. (n : ℕ) (ts : List Tree) → AllMeant (n ≤ 256) ts leaves.now → BothFilled (n ≤ 256) (move_with ts said.now) f) }
+    ensures { IfOk result (λ f. (n : ℕ) (ts : List Tree) → AllMeant (n ≤ 256) ts leaves.now
+        → BothFilled (n ≤ 256) (move_with ts said.now) f) }
 {
     filled_said(alloc, leaves, said)
 }

@@ -1,13 +1,12 @@
 //! All rows without modes.
 
-ghost use Rattle.std.specs.Prelude.{◌≡◌, ◌++◌, ◌∷◌, ◌+◌, ◌≤◌, [], List, map, take, length, IfOk};
+ghost use Rattle.std.specs.Prelude.{◌≡◌, ◌++◌, ◌∷◌, ◌+◌, ◌≤◌, [], take, length, IfOk};
 ghost use Rattle.md_text.specs.Pieces.{slots};
-ghost use Rattle.md_text.specs.Expansion.{Expanded as Row, expanded, choices, fillings, expansions_of, expansions};
-ghost use Rattle.md_text.specs.Forms.{RowLine as SaidRow};
-ghost use Rattle.md_forms.specs.Seen.{piece_of, pieces_of, form_of, declarations_of};
-ghost use Rattle.md_expand.specs.Fillings.{all_seen, all_options};
+ghost use Rattle.md_text.specs.Expansion.{expansions};
+ghost use Rattle.md_forms.specs.Seen.{pieces_of, form_of, declarations_of};
 ghost use Rattle.md_expand.specs.Expanded.{AllExpanded};
-ghost use Rattle.md_expand.specs.Product.{rows_of};
+ghost use Rattle.md_expand.specs.Scope.{options_in, options_for};
+ghost use Rattle.md_expand.specs.Product.{rows_in, expansions_in, form_of_row, AddsRows};
 
 use crate::expanded::{Expanded, expand_row};
 use crate::fillings::{Filling, fillings};
@@ -16,7 +15,7 @@ use md_forms::{Declaration, Form, OpenTransfer, Piece};
 use rtl_tree::NoMemory;
 use std::alloc::Global;
 
-/// A row line.
+/// A row as its line declares it.
 #[derive(Clone, Copy)]
 struct RowLine<'a> {
     line: u32,
@@ -30,8 +29,8 @@ fn options_of<'a>(
     scope: &Scope<'a>,
     text: &[Piece],
 ) -> Result<Vec<Vec<Filling<'a>>>, NoMemory>
-    ensures { IfOk result (λ options. all_options scope.now.width (declarations_of scope.now.all.now) options.items
-        ≡ map (λ h. fillings scope.now.width (declarations_of scope.now.all.now) h.kind) (slots (pieces_of text.now))) }
+    ensures { IfOk result (λ options.
+        options_in scope.now options.items ≡ options_for scope.now text.now) }
 {
     let mut options = Vec::new(alloc);
     for piece in text {
@@ -46,13 +45,11 @@ fn with_options<'a>(
     mut options: Vec<Vec<Filling<'a>>>,
     piece: &Piece,
 ) -> Result<Vec<Vec<Filling<'a>>>, NoMemory>
-    ensures { IfOk result (λ more. all_options scope.now.width (declarations_of scope.now.all.now) more.items
-        ≡ all_options scope.now.width (declarations_of scope.now.all.now) options.entry.items
-        ++ map (λ h. fillings scope.now.width (declarations_of scope.now.all.now) h.kind) (slots (piece_of piece.now ∷ []))) }
+    ensures { IfOk result (λ more. options_in scope.now more.items
+        ≡ options_in scope.now options.entry.items ++ options_for scope.now (piece.now ∷ [])) }
 {
-    match piece {
-        Piece::Hole(slot) => options.push(fillings(alloc, scope, &slot.kind)?)?,
-        _ => {}
+    if let Piece::Hole(slot) = piece {
+        options.push(fillings(alloc, scope, &slot.kind)?)?;
     }
     Ok(options)
 }
@@ -69,7 +66,8 @@ fn extended<'a>(
     Ok(more)
 }
 
-/// Writes the rows that come of fillings of the holes that are left, with what is chosen for those before, until there are so many.
+/// Writes the rows whose first holes are filled by what is chosen, one for each choice among the options of the others, until there
+/// are so many.
 fn expand_choices<'a>(
     alloc: Global,
     scope: &Scope<'a>,
@@ -82,8 +80,8 @@ fn expand_choices<'a>(
     requires room { length into.items ≤ limit }
     requires slots { length chosen.now + length options.now ≡ length (slots (pieces_of row.text.now)) }
     ensures room { IfOk result (λ more. length more.items ≤ limit) }
-    ensures rows { IfOk result (λ more. (done : List Row) → AllExpanded done into.items
-        → AllExpanded (take limit (done ++ rows_of scope.now.width (declarations_of scope.now.all.now) row.entry chosen.now options.now)) more.items) }
+    ensures rows { IfOk result (λ more.
+        AddsRows limit (rows_in scope.now row.entry chosen.now options.now) into.items more.items) }
 {
     if into.len() >= limit {
         return Ok(into);
@@ -103,6 +101,26 @@ fn expand_choices<'a>(
     }
 }
 
+/// Writes the rows that come of a row's line, until there are so many.
+fn expand_row_line(
+    alloc: Global,
+    scope: &Scope<'_>,
+    row: RowLine<'_>,
+    limit: usize,
+    into: Vec<Expanded>,
+) -> Result<Vec<Expanded>, NoMemory>
+    requires room { length into.items ≤ limit }
+    ensures room { IfOk result (λ more. length more.items ≤ limit) }
+    ensures rows { IfOk result (λ more.
+        AddsRows limit (expansions_in scope.now row.entry.line (form_of_row row.entry)) into.items more.items) }
+{
+    if into.len() == limit {
+        return Ok(into);
+    }
+    let options = options_of(alloc, scope, row.text)?;
+    expand_choices(alloc, scope, row, &options, &[], limit, into)
+}
+
 /// Writes the rows that come of a line, until there are so many.
 fn expand_line(
     alloc: Global,
@@ -113,8 +131,9 @@ fn expand_line(
 ) -> Result<Vec<Expanded>, NoMemory>
     requires room { length into.items ≤ limit }
     ensures room { IfOk result (λ more. length more.items ≤ limit) }
-    ensures rows { IfOk result (λ more. (done : List Row) → AllExpanded done into.items
-        → AllExpanded (take limit (done ++ expansions_of scope.now.width (declarations_of scope.now.all.now) declaration.now.line (form_of declaration.now.form))) more.items) }
+    ensures rows { IfOk result (λ more.
+        AddsRows limit (expansions_in scope.now declaration.now.line (form_of declaration.now.form))
+        into.items more.items) }
 {
     match &declaration.form {
         Form::RowLine { text, transfer } => {
@@ -129,25 +148,10 @@ fn expand_line(
     }
 }
 
-fn expand_row_line(
-    alloc: Global,
-    scope: &Scope<'_>,
-    row: RowLine<'_>,
-    limit: usize,
-    into: Vec<Expanded>,
-) -> Result<Vec<Expanded>, NoMemory>
-    requires room { length into.items ≤ limit }
-    ensures room { IfOk result (λ more. length more.items ≤ limit) }
-    ensures rows { IfOk result (λ more. (done : List Row) → AllExpanded done into.items
-        → AllExpanded (take limit (done ++ expansions_of scope.now.width (declarations_of scope.now.all.now) row.entry.line (SaidRow (pieces_of row.entry.text.now) row.entry.transfer.now))) more.items) }
-{
-    let options = options_of(alloc, scope, row.text)?;
-    expand_choices(alloc, scope, row, &options, &[], limit, into)
-}
-
 /// The first rows without modes, at most so many.
 pub fn expand(alloc: Global, scope: &Scope<'_>, limit: usize) -> Result<Vec<Expanded>, NoMemory>
-    ensures { IfOk result (λ rows. AllExpanded (take limit (expansions scope.now.width (declarations_of scope.now.all.now))) rows.items) }
+    ensures { IfOk result (λ rows. AllExpanded
+        (take limit (expansions scope.now.width (declarations_of scope.now.all.now))) rows.items) }
 {
     let mut rows = Vec::new(alloc);
     for declaration in scope.all {

@@ -93,6 +93,7 @@ fn with_class<'a>(
 }
 
 impl<'a> Scope<'a> {
+    /// Gathers the registers of each class. Of classes of one name the first counts.
     pub fn new(alloc: Global, width: u32, all: &'a [Declaration]) -> Result<Scope<'a>, NoMemory>
         requires size { IsTrue (is_size width) }
         requires fit { FitIn64 (declarations_of all.now) }

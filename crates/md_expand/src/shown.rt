@@ -1,10 +1,11 @@
 //! The text of a row without modes.
 
-ghost use Rattle.std.specs.Prelude.{◌≡◌, ◌++◌, ◌∷◌, [], map, IfOk, IsTrue};
+ghost use Rattle.std.specs.Prelude.{◌≡◌, ◌++◌, map, IfOk, IsTrue};
+ghost use Rattle.md_text.specs.Expansion.{taken_by, shown, low_end, high_end};
+ghost use Rattle.md_forms.specs.Seen.{kind_of, piece_of, pieces_of, range_of};
 ghost use Rattle.md_expand.specs.Bits.{is_size};
-ghost use Rattle.md_text.specs.Expansion.{taken_by, shown, holes_in, low_end, high_end};
-ghost use Rattle.md_forms.specs.Seen.{kind_of, piece_of, pieces_of, range_of, declarations_of};
 ghost use Rattle.md_expand.specs.Seen.{shown_of, all_shown};
+ghost use Rattle.md_expand.specs.Scope.{declared_in};
 
 use crate::scope::Scope;
 use md_forms::{Kind, Piece, Range};
@@ -13,7 +14,7 @@ use rtl_tree::NoMemory;
 use sqlite_items::Items;
 use std::alloc::Global;
 
-/// A token, or a hole.
+/// A piece of a text without modes: a token, or a hole.
 #[derive(Debug, Drop)]
 pub enum Shown {
     Name(Items<u8>),
@@ -42,9 +43,9 @@ fn high_end(width: u32, range: Range) -> i64
     }
 }
 
-/// What a hole takes that is for no mode.
+/// What a hole takes that is for no mode; a class that isn't declared has no registers.
 pub fn taken_by(scope: &Scope<'_>, kind: &Kind) -> Hole
-    ensures { result ≡ taken_by scope.now.width (declarations_of scope.now.all.now) (kind_of kind.now) }
+    ensures { result ≡ taken_by scope.now.width (declared_in scope.now) (kind_of kind.now) }
 {
     match kind {
         Kind::Named(name) => Hole::Reg(scope.bits_of(name.as_slice())),
@@ -60,7 +61,8 @@ pub fn taken_by(scope: &Scope<'_>, kind: &Kind) -> Hole
 
 /// A piece of a text without modes.
 pub fn show_piece(alloc: Global, scope: &Scope<'_>, piece: &Piece) -> Result<Shown, NoMemory>
-    ensures { IfOk result (λ s. shown_of s ≡ shown scope.now.width (declarations_of scope.now.all.now) (piece_of piece.now)) }
+    ensures { IfOk result (λ s.
+        shown_of s ≡ shown scope.now.width (declared_in scope.now) (piece_of piece.now)) }
 {
     match piece {
         Piece::Name(name) => Ok(Shown::Name(Items::from_slice(alloc, name.as_slice())?)),
@@ -77,7 +79,8 @@ pub fn push_shown(
     text: &[Piece],
     into: &mut Vec<Shown>,
 ) -> Result<(), NoMemory>
-    ensures { IfOk result (λ _. all_shown into.new.items ≡ all_shown into.old.items ++ map (shown scope.now.width (declarations_of scope.now.all.now)) (pieces_of text.now)) }
+    ensures { IfOk result (λ _. all_shown into.new.items
+        ≡ all_shown into.old.items ++ map (shown scope.now.width (declared_in scope.now)) (pieces_of text.now)) }
 {
     for piece in text {
         into.push(show_piece(alloc, scope, piece)?)?;

@@ -1,6 +1,10 @@
 //! A row with a mode of two alternatives.
 
-use crate::{Scope, expand, fit_in_64};
+ghost use Rattle.std.specs.Prelude.{IfOk};
+ghost use Rattle.md_forms.specs.Seen.{form_of};
+ghost use Rattle.md_expand.specs.Bits.{FitsIn64};
+
+use crate::{Scope, expand};
 use md_forms::{Declaration, Form, Kind, OpenTransfer, OpenTree, Piece, Said, Slot};
 use rtl_tree::{Cell, Expr, NoMemory, Place};
 use sqlite_items::Items;
@@ -11,7 +15,9 @@ fn bytes(alloc: Global, text: &[u8]) -> Result<Items<u8>, NoMemory> {
     Ok(Items::from_slice(alloc, text)?)
 }
 
-fn alternative(alloc: Global, line: u32, name: &[u8], value: u32) -> Result<Declaration, NoMemory> {
+fn alternative(alloc: Global, line: u32, name: &[u8], value: u32) -> Result<Declaration, NoMemory>
+    ensures { IfOk result (λ d. FitsIn64 (form_of d.form)) }
+{
     let mut text = Items::new(alloc);
     text.push(Piece::Name(bytes(alloc, name)?))?;
     let tree = OpenTree {
@@ -25,7 +31,9 @@ fn alternative(alloc: Global, line: u32, name: &[u8], value: u32) -> Result<Decl
     })
 }
 
-fn row(alloc: Global, line: u32) -> Result<Declaration, NoMemory> {
+fn row(alloc: Global, line: u32) -> Result<Declaration, NoMemory>
+    ensures { IfOk result (λ d. FitsIn64 (form_of d.form)) }
+{
     let mut text = Items::new(alloc);
     let name = bytes(alloc, b"x")?;
     let kind = Kind::Named(bytes(alloc, b"m")?);
@@ -45,17 +53,11 @@ fn row(alloc: Global, line: u32) -> Result<Declaration, NoMemory> {
 }
 
 fn expanded(alloc: Global, limit: usize) -> Result<usize, NoMemory> {
-    let mut all = Vec::new(alloc);
-    all.push(alternative(alloc, 7, b"a", 1)?)?;
-    all.push(alternative(alloc, 8, b"b", 2)?)?;
-    all.push(row(alloc, 9)?)?;
-    let all = all.as_slice();
-    if fit_in_64(all) {
-        let scope = Scope::new(alloc, 16, all)?;
-        Ok(expand(alloc, &scope, limit)?.len())
-    } else {
-        Err(NoMemory)
-    }
+    let first = alternative(alloc, 7, b"a", 1)?;
+    let second = alternative(alloc, 8, b"b", 2)?;
+    let all = [first, second, row(alloc, 9)?];
+    let scope = Scope::new(alloc, 16, &all)?;
+    Ok(expand(alloc, &scope, limit)?.len())
 }
 
 #[test]

@@ -1,10 +1,11 @@
 use Rattle.std.proofs.Common.{◌≡◌, ◌++◌, ◌∷◌, List, [], take, drop, length, ◌-◌, sym, ap, ◌∙◌, subst, arith}
 use Rattle.std.proofs.lemmas.List.{nil_from_length, take_all}
 use Rattle.rtl_tree.proofs.Pairs.{is_cons}
-use Rattle.md_text.specs.Expansion.{Expanded as Row}
-use Rattle.md_forms.specs.Seen.{declarations_of}
+use Rattle.md_text.specs.Expansion.{Expanded as Row, expanded}
+use Rattle.md_forms.specs.Seen.{pieces_of, declarations_of}
 use Rattle.md_expand.specs.declared.fillings.Filling.{Filling}
 use Rattle.md_expand.specs.Expanded.{AllExpanded}
+use Rattle.md_expand.specs.Fillings.{all_seen}
 use Rattle.md_expand.specs.Product.{rows_of}
 use Rattle.md_expand.proofs.Choices.{rows_by, full, none_yet, one_row, chosen_all, one_option_more, all_options_taken}
 use Rattle.md_expand.proofs.product.+expand_choices.Goals as goal
@@ -42,11 +43,12 @@ pub returns-in_ok-push-in-empty-clause-rows : goal.returns-in_ok-push-in-empty-c
 returns-in_ok-push-in-empty-clause-rows t c =
     let w = c.args.scope.now.width in
     let ds = declarations_of c.args.scope.now.all.now in
+    let row = expanded c.args.row.line (pieces_of c.args.row.text.now) c.args.row.transfer.now (all_seen w ds c.args.chosen.now) in
     let none : c.args.options.now ≡ [] = nil_from_length c.args.options.now (omega (arith, c.in-empty.len_below)) in
     let whole = ap (rows_of w ds c.args.row c.args.chosen.now) none ∙ chosen_all w ds c.args.row c.args.chosen.now in
     λ done a.
     subst (λ (rows : List Row). AllExpanded (take c.args.limit (done ++ rows)) c.push.new.self.items) (sym whole)
-    (one_row c.args.limit done _ c.args.into.items c.push.new.self.items c.in_ok-expand_row-in-empty.field-0
+    (one_row c.args.limit done row c.args.into.items c.push.new.self.items c.in_ok-expand_row-in-empty.field-0
     (omega (arith, c.args.into.ok.0, c.len.ensures, c.if-len-limit.false)) a c.in_ok-expand_row-in-empty.ensures c.in_ok-push-in-empty.ensures.items)
 
 pub returns-after-loop-filling-clause-rows : goal.returns-after-loop-filling-clause-rows

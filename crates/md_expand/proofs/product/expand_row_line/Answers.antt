@@ -1,12 +1,19 @@
 use Rattle.std.proofs.Common.{◌≡◌, ◌++◌, List, map, take, length, ap, ◌∙◌, subst, arith}
 use Rattle.md_text.specs.Pieces.{slots}
-use Rattle.md_text.specs.Expansion.{Filling, fillings, expanded, choices}
+use Rattle.md_text.specs.Expansion.{Filling, fillings, expanded, expansions_of, choices}
 use Rattle.md_forms.specs.Seen.{pieces_of, declarations_of}
 use Rattle.md_expand.specs.Expanded.{AllExpanded}
 use Rattle.md_expand.specs.Fillings.{all_options}
-use Rattle.md_expand.proofs.Choices.{as_many_options}
+use Rattle.md_expand.specs.Product.{form_of_row}
+use Rattle.md_expand.proofs.Choices.{as_many_options, full}
 use Rattle.md_expand.proofs.Outcomes.{if_ok_then}
 use Rattle.md_expand.proofs.product.expand_row_line.Goals as goal
+
+pub returns-then-len-limit-clause-rows : goal.returns-then-len-limit-clause-rows
+returns-then-len-limit-clause-rows c =
+    let row = c.args.row in
+    let rows = expansions_of c.args.scope.now.width (declarations_of c.args.scope.now.all.now) row.line (form_of_row row) in
+    λ done a. full c.args.limit done rows c.args.into.items c.requires.room (omega (arith, c.args.into.ok.0, c.len.ensures, c.if-len-limit.true)) a
 
 pub expand_choices-requires-clause-slots : goal.expand_choices-requires-clause-slots
 expand_choices-requires-clause-slots c =

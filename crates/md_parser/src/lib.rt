@@ -14,6 +14,8 @@ mod bars;
 mod declared;
 mod fault;
 mod form;
+#[cfg(test)]
+mod form_tests;
 mod keywords;
 mod owned;
 mod plain;

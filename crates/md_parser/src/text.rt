@@ -3,6 +3,7 @@
 ghost use Rattle.std.specs.Prelude.{◌≡◌, ◌≤◌, ◌-◌, ◌^◌, length, map, IfOk, IfSome, IfNone, IsErrOf};
 ghost use Rattle.md_text.specs.Lines.{BeginsOtherwise};
 ghost use Rattle.md_text.specs.Declarations.{Declares};
+ghost use Rattle.md_text.specs.Numbered.{IsNumbered};
 ghost use Rattle.md_text.specs.Accepted.{Told as IsTold};
 ghost use Rattle.md_lines.specs.Kept.{line_of};
 ghost use Rattle.md_forms.specs.declared.rules.Told.{Told as Telling};
@@ -50,6 +51,7 @@ fn told(rule: Rule, line: u32) -> ReadFault
 pub fn read_declared(alloc: Global, text: &[u8]) -> Result<Declared, ReadFault>
     requires { length text.now ≤ 2 ^ 32 - 2 }
     ensures found { IfOk result (λ d. Declares text.now (declared_of d)) }
+    ensures numbered { IfOk result (λ d. IsNumbered (declared_of d)) }
     ensures kept { IfOk result (λ d. KeepsFirstRules text.now) }
     ensures told { (t : Telling) → IsErrOf result (ReadFault.Told t) → IsTold text.now (rule_of t.rule) t.line }
 {

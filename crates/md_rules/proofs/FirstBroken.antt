@@ -6,7 +6,8 @@ use Rattle.std.specs.declared.option.Option.TheVariants.{Some, None}
 use Rattle.md_text.specs.Forms.{Form}
 use Rattle.md_text.specs.Declarations.{Declaration}
 use Rattle.md_text.specs.Accepted.{HasBroken}
-use Rattle.md_rules.specs.Least.{IsLeast, GoUp, first_broken}
+use Rattle.md_text.specs.Numbered.{GoUp}
+use Rattle.md_rules.specs.Least.{IsLeast, first_broken}
 
 -- a declaration of ds is broken, where those of front stand before ds
 record BrokenBehind (test : List Declaration → Form → Bool) (front ds : List Declaration) (line : ℕ) : Type 0 where

@@ -4,7 +4,8 @@ use Rattle.std.specs.declared.option.Option.TheVariants.{Some, None}
 use Rattle.md_text.specs.Declarations.{Declared}
 use Rattle.md_text.specs.Heading.{breaks_heading}
 use Rattle.md_text.specs.Accepted.{HasBroken, HasBadHeading, elsewhere, unfinished}
-use Rattle.md_rules.specs.Least.{IsLeast, GoUp}
+use Rattle.md_text.specs.Numbered.{GoUp}
+use Rattle.md_rules.specs.Least.{IsLeast}
 use Rattle.md_rules.proofs.FirstBroken.{ordered_to}
 
 by_cause : (d : Declared) (m : ℕ) → HasBadHeading d m → HasBroken breaks_heading d.all m ⊎ ((length d.all < 6) × (m ≡ d.last))

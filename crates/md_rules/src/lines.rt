@@ -4,8 +4,9 @@ ghost use Rattle.std.specs.Prelude.{◌≡◌, ◌<◌, ◌≤◌, [], length, I
 ghost use Rattle.rtl_word.specs.Words.{IsWordSize};
 ghost use Rattle.md_text.specs.Rules.{has_misused_hole, has_mode_in_mode};
 ghost use Rattle.md_text.specs.Accepted.{HasBroken};
+ghost use Rattle.md_text.specs.Numbered.{IsNumbered};
 ghost use Rattle.md_forms.specs.Seen.{form_of, declarations_of, declared_of};
-ghost use Rattle.md_rules.specs.Least.{IsLeast, IsNumbered, first_broken};
+ghost use Rattle.md_rules.specs.Least.{IsLeast, first_broken};
 ghost use Rattle.md_rules.specs.Tests.{test_of};
 
 use crate::heading::{breaks_heading, is_out_of_range};

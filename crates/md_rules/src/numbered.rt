@@ -2,7 +2,7 @@
 
 ghost use Rattle.std.specs.Prelude.{◌≡◌, IsTrue, ◌↔◌};
 ghost use Rattle.md_forms.specs.Seen.{declarations_of, declared_of};
-ghost use Rattle.md_rules.specs.Least.{GoUp, IsNumbered};
+ghost use Rattle.md_text.specs.Numbered.{GoUp, IsNumbered};
 
 use md_forms::{Declaration, Declared};
 

@@ -3,9 +3,10 @@
 ghost use Rattle.std.specs.Prelude.{◌≡◌, ◌≢◌, ◌<◌, ◌≤◌, ◌⊎◌, IfOk};
 ghost use Rattle.md_text.specs.Accepted.{number_of, HasBroken, HasBadHeading, HasWrongRoles};
 ghost use Rattle.md_text.specs.Heading.{breaks_heading};
+ghost use Rattle.md_text.specs.Numbered.{IsNumbered};
 ghost use Rattle.md_forms.specs.Seen.{declarations_of, declared_of};
 ghost use Rattle.md_forms.specs.SeenRules.{rule_of};
-ghost use Rattle.md_rules.specs.Least.{IsLeast, IsNumbered};
+ghost use Rattle.md_rules.specs.Least.{IsLeast};
 ghost use Rattle.md_rules.specs.Broken.{BreaksBy, IsFirst};
 
 use crate::lines::{LineRule, least_line};

@@ -5,3 +5,4 @@ pub mod TextPieces
 pub mod Tellings
 pub mod FormTexts
 pub mod Declaring
+pub mod Numbering

@@ -6,6 +6,7 @@ use Rattle.md_text.specs.Pieces.{Piece, SpellsText}
 use Rattle.rtl_word.specs.Words.{IsWordSize}
 use Rattle.md_text.specs.Forms.{Form, HasForm}
 use Rattle.md_text.specs.Declarations.{Declared, Declares}
+use Rattle.md_text.specs.Numbered.{IsNumbered}
 use Rattle.md_text.specs.Accepted.{Rule, Told, Says}
 
 abbrev pub AtMostOneFall : Type 0
@@ -27,3 +28,6 @@ AtMostOneDeclared = (text : List ℕ) (d e : Declared) → Declares text d → D
 
 abbrev pub AtMostOneDescription : Type 0
 AtMostOneDescription = (text : List ℕ) (d e : RawDescription) → Says text d → Says text e → d ≡ e
+
+abbrev pub DeclaredIsNumbered : Type 0
+DeclaredIsNumbered = (text : List ℕ) (d : Declared) → Declares text d → IsNumbered d

@@ -2,6 +2,7 @@ pub mod Lines
 pub mod Pieces
 pub mod Forms
 pub mod Declarations
+pub mod Numbered
 pub mod Expansion
 pub mod Heading
 pub mod Rules

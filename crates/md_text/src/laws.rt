@@ -1,6 +1,6 @@
 //! Laws of descriptions' texts.
 
-ghost use Rattle.md_text.specs.Laws.{AtMostOneDeclared, AtMostOneDescription, AtMostOneFall, AtMostOneForm, AtMostOneText, AtMostOneTold};
+ghost use Rattle.md_text.specs.Laws.{AtMostOneDeclared, AtMostOneDescription, AtMostOneFall, AtMostOneForm, AtMostOneText, AtMostOneTold, DeclaredIsNumbered};
 
 /// A text falls into lines in one way.
 pub fn at_most_one_fall()
@@ -30,4 +30,9 @@ pub fn at_most_one_description()
 /// At most one rule is told of a text, at one line.
 pub fn at_most_one_told()
     ensures { AtMostOneTold }
+{}
+
+/// The lines that a text declares are numbered from 1 on, and words have 16 or 32 bits.
+pub fn declared_is_numbered()
+    ensures { DeclaredIsNumbered }
 {}

@@ -6,7 +6,7 @@
 //! - `specs/Lines.antt`: the lines of a text, and which of them are skipped.
 //! - `specs/Pieces.antt`: the text of a row or mode, which is tokens and holes.
 //! - `specs/Forms.antt`: what a line says.
-//! - `specs/Declarations.antt`: what the lines of a text declare.
+//! - `specs/Declarations.antt` and `specs/Numbered.antt`: what the lines of a text declare, and the numbers of these lines.
 //! - `specs/Expansion.antt`: the rows, with each mode replaced by its alternatives.
 //! - `specs/Heading.antt` and `specs/Rules.antt`: what breaks a rule.
 //! - `specs/Accepted.antt`: the rule that is told, and the description that an accepted text says.

@@ -34,7 +34,8 @@ fn gathered(made: Gathered, a: Assignment) -> Result<Gathered, NoMemory>
     }
 }
 
-/// An assignment with the end of the text, or with what stands between two; and whether it was the last.
+/// The next assignment, whether the text ends with it, and the tokens behind it and behind the end or the `; ` that follows.
+/// `Reading.item` says it of tokens; nothing is said where memory runs out.
 pub fn item<'t, 'a>(
     alloc: Global,
     c: &Context<'_>,

@@ -2,7 +2,8 @@
 //!
 //! A well-formed transfer has one spelling, as `r[1] = (r[1] + 4); f[0] = lost`, which `print_transfer` appends and `read_transfer`
 //! decides; `read_holed` decides it with holes, as `<h>`. What spells a transfer, where a text that spells none goes wrong, and the
-//! reading with one token of lookahead are definitions of `rtl_spelling`; the program here is proved to do just that.
+//! reading with one token of lookahead are definitions of `rtl_spelling`; the program here is proved to do just that. The parts of the
+//! reading, `lex`, `tree` and `item`, serve texts that hold trees and transfers.
 //!
 //! - `lexing` and `token`: the tokens of a text by longest match, or the byte that begins none.
 //! - `senses`, `words` and `number`: what a token says; `bytes`: the bytes of marks and words.

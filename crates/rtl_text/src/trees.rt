@@ -303,7 +303,8 @@ fn tree_on<'t, 'a>(
     }
 }
 
-/// A tree that may have `room` trees one in the other.
+/// The tree with which the tokens begin, of at most `room` trees one in the other, and the tokens behind it. `Reading.tree` says it
+/// of tokens; nothing is said where memory runs out.
 #[cycle(reading)]
 pub fn tree<'t, 'a>(
     alloc: Global,

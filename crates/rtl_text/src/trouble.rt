@@ -7,7 +7,9 @@ use std::alloc::AllocFailed;
 #[derive(Clone, Copy, Debug, PartialEq, Eq)]
 pub enum Trouble {
     NoMemory,
+    /// A token continues no transfer.
     Wrong(usize),
+    /// A token begins a tree that stands in too many others.
     Deep(usize),
 }
 

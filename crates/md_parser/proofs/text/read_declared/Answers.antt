@@ -1,11 +1,12 @@
 use Rattle.std.proofs.Common.{◌≡◌, Err, ap, sym, subst, map}
 use Rattle.md_text.specs.Accepted.{Told as IsTold}
+use Rattle.md_text.proofs.Numbering.{declared_numbered}
 use Rattle.md_lines.specs.Kept.{line_of}
 use Rattle.md_forms.specs.declared.rules.Rule.TheVariants.{BadByte, OtherVersion, NoForm}
 use Rattle.md_forms.specs.Seen.{declarations_of}
 use Rattle.md_forms.specs.SeenRules.{rule_of}
 use Rattle.md_parser.specs.declared.text.ReadFault.TheVariants.{Told as Given}
-use Rattle.md_parser.proofs.FirstTold.{bad_told, version_told, form_told, keeps_rules, kept_short, at_slice, as_told}
+use Rattle.md_parser.proofs.FirstTold.{bad_told, version_told, form_told, keeps_rules, text_declares, kept_short, at_slice, as_told}
 use Rattle.md_parser.proofs.text.read_declared.Goals as goal
 
 pub declarations-requires-clause-short : goal.declarations-requires-clause-short
@@ -38,3 +39,8 @@ pub returns-clause-kept : goal.returns-clause-kept
 returns-clause-kept c =
     keeps_rules c.args.text.now (map line_of c.as_slice-kept.result.now) c.in-Ok.lines.last c.width_of-width.result (declarations_of c.in-Ok-declarations.all)
     (at_slice c.args.text.now _ _ _ c.in-Ok.ensures.kept c.as_slice-kept.ensures.value) c.in_default.ensures.none c.width_of-width.ensures.width c.in-Ok-declarations.ensures.found
+
+pub returns-clause-numbered : goal.returns-clause-numbered
+returns-clause-numbered c =
+    declared_numbered c.args.text.now _ (text_declares c.args.text.now (map line_of c.as_slice-kept.result.now) c.in-Ok.lines.last c.width_of-width.result (declarations_of c.in-Ok-declarations.all)
+    (at_slice c.args.text.now _ _ _ c.in-Ok.ensures.kept c.as_slice-kept.ensures.value) c.width_of-width.ensures.width c.in-Ok-declarations.ensures.found)

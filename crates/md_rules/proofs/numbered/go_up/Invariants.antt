@@ -1,7 +1,7 @@
 use Rattle.std.proofs.Common.{drop}
 use Rattle.std.specs.Prelude.{◌↔◌}
 use Rattle.md_forms.specs.Seen.{declarations_of}
-use Rattle.md_rules.specs.Least.{GoUp}
+use Rattle.md_text.specs.Numbered.{GoUp}
 use Rattle.md_rules.proofs.numbered.go_up.Given as goal
 
 abbrev pub invariant-loop-declaration : goal.invariant-loop-declaration

@@ -2,3 +2,5 @@ pub mod Joined
 pub mod Whole
 pub mod Lists
 pub mod Declarations
+pub mod InRange
+pub mod Rows

@@ -3,4 +3,4 @@ pub mod Whole
 pub mod Lists
 pub mod Declarations
 pub mod InRange
-pub mod Rows
+pub mod RowsMade

@@ -1,6 +1,6 @@
 //! The rows of a description.
 
-ghost use Rattle.std.specs.Prelude.{◌≡◌, ◌+◌, ◌<◌, ◌≤◌, ◌∷◌, [], List, All, length, map, IfOk};
+ghost use Rattle.std.specs.Prelude.{◌≡◌, ◌+◌, ◌<◌, ◌≤◌, ◌++◌, ◌∷◌, [], List, All, length, map, IfOk};
 ghost use Rattle.rtl_tree.specs.Moves.{goal_of};
 ghost use Rattle.md_text.specs.Expansion.{Expanded as Expansion, holes_in};
 ghost use Rattle.md_text.specs.Accepted.{pieces_from, row_of};
@@ -8,6 +8,7 @@ ghost use Rattle.md_expand.specs.Seen.{shown_of, all_shown};
 ghost use Rattle.md_expand.specs.Filled.{assign_of};
 ghost use Rattle.md_expand.specs.Expanded.{IsExpanded, AllExpanded};
 ghost use Rattle.md_expand.specs.Limits.{IsWithinLimits};
+ghost use Rattle.md_reader.specs.RowsMade.{row_with};
 
 use md_expand::{Expanded, Filled, Shown};
 use md_rows::{Hole, Piece, Row};
@@ -16,14 +17,21 @@ use smallvec::SmallVec;
 use sqlite_items::Items;
 use std::alloc::Global;
 
+fn with_hole(mut holes: Items<Hole>, shown: &Shown) -> Result<Items<Hole>, NoMemory>
+    ensures { IfOk result (λ more. more ≡ holes ++ holes_in (shown_of shown.now ∷ [])) }
+{
+    if let Shown::Vacant(hole) = shown {
+        holes.push(*hole)?;
+    }
+    Ok(holes)
+}
+
 fn holes(alloc: Global, text: &[Shown]) -> Result<Items<Hole>, NoMemory>
     ensures { IfOk result (λ holes. holes ≡ holes_in (all_shown text.now)) }
 {
     let mut holes = Items::new(alloc);
     for shown in text {
-        if let Shown::Vacant(hole) = shown {
-            holes.push(*hole)?;
-        }
+        holes = with_hole(holes, shown)?;
     }
     Ok(holes)
 }
@@ -98,11 +106,7 @@ fn row_with(alloc: Global, row: &Expanded, transfer: &[Filled]) -> Result<Row, N
     requires holes { length (holes_in (all_shown row.now.text.items)) ≤ 8 }
     requires some { 0 < length transfer.now }
     requires few { length transfer.now ≤ 6 }
-    ensures line { IfOk result (λ r. r.line ≡ row.now.line) }
-    ensures text { IfOk result (λ r. r.text ≡ pieces_from 0 (all_shown row.now.text.items)) }
-    ensures holes { IfOk result (λ r. r.holes ≡ holes_in (all_shown row.now.text.items)) }
-    ensures effects { IfOk result (λ r. r.effects ≡ map assign_of transfer.now) }
-    ensures normal { IfOk result (λ r. r.normal ≡ map assign_of transfer.now) }
+    ensures { IfOk result (λ made. made ≡ row_with row.now transfer.now) }
 {
     Ok(Row {
         line: row.line,

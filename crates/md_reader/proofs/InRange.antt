@@ -9,7 +9,9 @@ use Rattle.md_text.specs.Declarations.{Declaration, Declared, number_of, first_n
 use Rattle.md_text.specs.Heading.{place_in_heading, breaks_heading, is_whole, is_from_to, most_memory, leaves_room, is_out_of_range}
 use Rattle.md_text.specs.Accepted.{BadHeading, OutOfRange, HasBroken, HasBadHeading, elsewhere, unfinished}
 use Rattle.md_rules.specs.Broken.{IsFirst}
+use Rattle.md_expand.specs.Bits.{FitIn64}
 use Rattle.md_expand.proofs.Unbroken.{unbroken}
+use Rattle.md_expand.proofs.RegisterNumbers.{fit_in_64}
 use Rattle.md_reader.specs.Ranges.{IsInRange, AreInRange}
 
 both_hold : (a b : Bool) → not (a && b) ≡ false → (a ≡ true) × (b ≡ true)
@@ -98,23 +100,23 @@ data_below :
     (a b c d : Declaration) (line : ℕ) (z : ℤ) (ms : List Declaration) → place_in_heading a.form ≡ 0 → place_in_heading b.form ≡ 1 → place_in_heading c.form ≡ 2 → place_in_heading d.form ≡ 3
     → HasMemory d.form → ms ≡ a ∷ b ∷ c ∷ d ∷ record { line = line; form = DataBegin z } ∷ [] → data_in ms < memory_in ms → number_of z < 2 ^ 32
 data_below a b c d line z ms pa pb pc pd memory e lt =
-    let five = a ∷ b ∷ c ∷ d ∷ record { line = line; form = DataBegin z } ∷ [] in
-    let data : Declaration → Option ℤ = λ x. data_number x.form in
+    let last : List Declaration = record { line = line; form = DataBegin z } ∷ [] in
+    let begin : Declaration → Option ℤ = λ x. data_number x.form in
     let size : Declaration → Option ℤ = λ x. memory_number x.form in
     let begins : data_in ms ≡ number_of z =
         ap data_in e
         ∙ ap first_number
-          (passed data a _ (no_data a.form (omega (arith, pa)))
-          ∙ passed data b _ (no_data b.form (omega (arith, pb)))
-          ∙ passed data c _ (no_data c.form (omega (arith, pc)))
-          ∙ passed data d _ (no_data d.form (omega (arith, pd)))) in
+          (passed begin a (b ∷ c ∷ d ∷ last) (no_data a.form (omega (arith, pa)))
+          ∙ passed begin b (c ∷ d ∷ last) (no_data b.form (omega (arith, pb)))
+          ∙ passed begin c (d ∷ last) (no_data c.form (omega (arith, pc)))
+          ∙ passed begin d last (no_data d.form (omega (arith, pd)))) in
     let bytes : memory_in ms ≡ number_of memory.number =
         ap memory_in e
         ∙ ap first_number
-          (passed size a _ (no_memory a.form (omega (arith, pa)))
-          ∙ passed size b _ (no_memory b.form (omega (arith, pb)))
-          ∙ passed size c _ (no_memory c.form (omega (arith, pc))))
-        ∙ ap (λ o. first_number (cons_option o [])) memory.is in
+          (passed size a (b ∷ c ∷ d ∷ last) (no_memory a.form (omega (arith, pa)))
+          ∙ passed size b (c ∷ d ∷ last) (no_memory b.form (omega (arith, pb)))
+          ∙ passed size c (d ∷ last) (no_memory c.form (omega (arith, pc))))
+        ∙ ap (λ o. first_number (cons_option o (filter_map size last))) memory.is in
     omega (arith, begins, bytes, lt, memory.below)
 
 -- the first five declarations, with what stands behind them
@@ -184,3 +186,6 @@ in_range d first = behind [] d.all refl
       form_in_range d.width d.all before after it.line it.form (kept d first) split,
       behind (before ++ it ∷ []) after (split ∙ sym (append_assoc before (it ∷ []) after)),
     )
+
+pub registers_fit : (d : Declared) → IsFirst 1 10 d None → FitIn64 d.all
+registers_fit d first = fit_in_64 d.width d.all (λ line b. first OutOfRange line (omega arith) (omega arith) b)

@@ -1,13 +1,13 @@
 -- Numbers are in range where the rules of the heading and of ranges are kept.
-use Rattle.std.proofs.Common.{◌≡◌, ℕ, suc, ◌+◌, ◌<◌, ◌≤◌, ◌^◌, ℤ, pos, negsuc, Bool, true, false, not, ◌&&◌, ◌==◌, nat_lt, min, cond, List, [], ◌∷◌, ◌++◌, length, refl, sym, ap, ◌∙◌, subst, arith, append_assoc, length-append}
+use Rattle.std.proofs.Common.{◌≡◌, ℕ, suc, ◌+◌, ◌<◌, ◌≤◌, ◌^◌, ℤ, pos, negsuc, Bool, true, false, not, ◌&&◌, ◌==◌, nat_lt, min, cond, List, [], ◌∷◌, ◌++◌, length, refl, sym, ap, ◌∙◌, arith, append_assoc, length-append}
 use Rattle.std.specs.declared.option.Option.{Option}
 use Rattle.std.specs.declared.option.Option.TheVariants.{Some, None}
 use Rattle.std.specs.List.{filter_map, cons_option}
 use Rattle.std.proofs.lemmas.Bool.Decides.{nat_tests}
-use Rattle.md_text.specs.Forms.{Form, Version, MachineName, WordBits, MemorySize, DataBegin, StackSize, RegisterLine, FlagLine, ClassLine, ModeLine, RowLine}
+use Rattle.md_text.specs.Forms.{Form, MemorySize, DataBegin, StackSize, RegisterLine, FlagLine}
 use Rattle.md_text.specs.Declarations.{Declaration, Declared, number_of, first_number, memory_number, data_number, memory_in, data_in}
 use Rattle.md_text.specs.Heading.{place_in_heading, breaks_heading, is_whole, is_from_to, most_memory, leaves_room, is_out_of_range}
-use Rattle.md_text.specs.Accepted.{BadHeading, OutOfRange, HasBroken, HasBadHeading, elsewhere, unfinished}
+use Rattle.md_text.specs.Accepted.{BadHeading, OutOfRange, elsewhere, unfinished}
 use Rattle.md_rules.specs.Broken.{IsFirst}
 use Rattle.md_expand.specs.Bits.{FitIn64}
 use Rattle.md_expand.proofs.Unbroken.{unbroken}
@@ -104,19 +104,19 @@ data_below a b c d line z ms pa pb pc pd memory e lt =
     let begin : Declaration → Option ℤ = λ x. data_number x.form in
     let size : Declaration → Option ℤ = λ x. memory_number x.form in
     let begins : data_in ms ≡ number_of z =
-        ap data_in e
-        ∙ ap first_number
-          (passed begin a (b ∷ c ∷ d ∷ last) (no_data a.form (omega (arith, pa)))
-          ∙ passed begin b (c ∷ d ∷ last) (no_data b.form (omega (arith, pb)))
-          ∙ passed begin c (d ∷ last) (no_data c.form (omega (arith, pc)))
-          ∙ passed begin d last (no_data d.form (omega (arith, pd)))) in
+    ap data_in e
+    ∙ ap first_number
+    (passed begin a (b ∷ c ∷ d ∷ last) (no_data a.form (omega (arith, pa)))
+    ∙ passed begin b (c ∷ d ∷ last) (no_data b.form (omega (arith, pb)))
+    ∙ passed begin c (d ∷ last) (no_data c.form (omega (arith, pc)))
+    ∙ passed begin d last (no_data d.form (omega (arith, pd)))) in
     let bytes : memory_in ms ≡ number_of memory.number =
-        ap memory_in e
-        ∙ ap first_number
-          (passed size a (b ∷ c ∷ d ∷ last) (no_memory a.form (omega (arith, pa)))
-          ∙ passed size b (c ∷ d ∷ last) (no_memory b.form (omega (arith, pb)))
-          ∙ passed size c (d ∷ last) (no_memory c.form (omega (arith, pc))))
-        ∙ ap (λ o. first_number (cons_option o (filter_map size last))) memory.is in
+    ap memory_in e
+    ∙ ap first_number
+    (passed size a (b ∷ c ∷ d ∷ last) (no_memory a.form (omega (arith, pa)))
+    ∙ passed size b (c ∷ d ∷ last) (no_memory b.form (omega (arith, pb)))
+    ∙ passed size c (d ∷ last) (no_memory c.form (omega (arith, pc))))
+    ∙ ap (λ o. first_number (cons_option o (filter_map size last))) memory.is in
     omega (arith, begins, bytes, lt, memory.below)
 
 -- the first five declarations, with what stands behind them
@@ -149,10 +149,11 @@ data_in_range w ds before after line z k split =
   where
     it : Declaration
     it = record { line = line; form = DataBegin z }
+
     by : Five before after → number_of z < 2 ^ 32
     by f =
         let whole : ds ≡ f.a ∷ f.b ∷ f.c ∷ f.d ∷ it ∷ f.next ∷ f.rest =
-            split ∙ ap (λ xs. xs ++ it ∷ after) f.front ∙ ap (λ xs. f.a ∷ f.b ∷ f.c ∷ f.d ∷ it ∷ xs) f.behind in
+        split ∙ ap (λ xs. xs ++ it ∷ after) f.front ∙ ap (λ xs. f.a ∷ f.b ∷ f.c ∷ f.d ∷ it ∷ xs) f.behind in
         let three = f.a ∷ f.b ∷ f.c ∷ [] in
         let heading = f.a ∷ f.b ∷ f.c ∷ f.d ∷ it ∷ [] in
         let fourth = in_place three f.d.form (k.place three (it ∷ f.next ∷ f.rest) f.d whole) in

@@ -20,7 +20,7 @@ pub row_made :
     → row_with e v.items ≡ row_of r
 row_made r e v some few x =
     let transfer : Some (map assign_of v.items) ≡ r.transfer =
-        ap (option_map (λ u. map assign_of u.items)) (sym some) ∙ same_transfer r e x (omega (arith, few)) in
+    ap (option_map (λ u. map assign_of u.items)) (sym some) ∙ same_transfer r e x (omega (arith, few)) in
     let moves : map assign_of v.items ≡ unwrap_or r.transfer [] = ap (λ o. unwrap_or o []) transfer in
     let text = ap (pieces_from 0) x.text in
     let holes = ap holes_in x.text in

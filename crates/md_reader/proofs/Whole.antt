@@ -5,12 +5,9 @@ use Rattle.std.specs.Prelude.{IsErrOf}
 use Rattle.std.specs.declared.result.Result.TheVariants.{Err}
 use Rattle.vp_io.specs.declared.answers.Reason.{Reason}
 use Rattle.md_rows.specs.declared.description.RawDescription.{RawDescription}
-use Rattle.md_fault.specs.declared.MdFault.{MdFault}
 use Rattle.md_fault.specs.declared.MdFault.TheVariants.{Bad}
 use Rattle.md_text.specs.Declarations.{Declared, Declares}
-use Rattle.md_text.specs.Heading.{is_out_of_range}
-use Rattle.md_text.specs.Rules.{is_declared_twice, is_undeclared, has_reserved_name, HasGoodTransfer, has_misused_hole, has_mode_in_mode, is_too_large}
-use Rattle.md_text.specs.Accepted.{Rule, BadByte, OtherVersion, NoForm, BadHeading, OutOfRange, DeclaredTwice, NotDeclared, ReservedName, WrongRoles, BadTransfer, MisusedHole, ModeInMode, TooLarge, TooMany, number_of, Breaks, DeclaresBad, Told, IsAccepted, HasBroken, HasBadHeading, HasWrongRoles, HasBrokenRow, HasTooMany}
+use Rattle.md_text.specs.Accepted.{Rule, BadByte, OtherVersion, NoForm, BadHeading, OutOfRange, DeclaredTwice, NotDeclared, ReservedName, WrongRoles, BadTransfer, MisusedHole, ModeInMode, TooLarge, TooMany, number_of, Breaks, DeclaresBad, Told, IsAccepted}
 use Rattle.md_text.proofs.Declaring.{declared_once}
 use Rattle.md_forms.specs.declared.rules.Told.{Told as Broken}
 use Rattle.md_forms.specs.SeenRules.{rule_of}

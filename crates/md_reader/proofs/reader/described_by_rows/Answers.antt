@@ -27,6 +27,6 @@ described-requires-clause-limits c =
     let first = subst (IsFirst 10 15 d) c.in-None.is c.in_ok-told.ensures in
     subst (All IsWithinLimits) (sym c.deref-in-None.ensures.value)
     (kept_within_limits d c.in_ok-rows.rows.items c.in_ok-rows.ensures
-      (λ line b. first BadTransfer line (omega arith) (omega arith) b)
-      (λ line b. first TooLarge line (omega arith) (omega arith) b)
-      (λ line b. first TooMany line (omega arith) (omega arith) b))
+    (λ line b. first BadTransfer line (omega arith) (omega arith) b)
+    (λ line b. first TooLarge line (omega arith) (omega arith) b)
+    (λ line b. first TooMany line (omega arith) (omega arith) b))

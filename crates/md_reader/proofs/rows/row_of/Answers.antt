@@ -8,5 +8,5 @@ pub returns : goal.returns
 returns c =
     IfOk-weaker c.row_with.result _ _
     (λ made same r x.
-        same ∙ ap (row_with c.args.row.now) c.deref.ensures.value ∙ row_made r c.args.row.now c.in-Some.transfer c.in-Some.is c.requires.holes x)
+    same ∙ ap (row_with c.args.row.now) c.deref.ensures.value ∙ row_made r c.args.row.now c.in-Some.transfer c.in-Some.is c.requires.holes x)
     c.row_with.ensures

@@ -1,3 +1,6 @@
 pub mod Joined
 pub mod Whole
 pub mod Lists
+pub mod Declarations
+pub mod InRange
+pub mod RowsMade

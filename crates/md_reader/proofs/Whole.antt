@@ -1,16 +1,19 @@
 -- The rules of a text are those of what it declares.
-use Rattle.std.proofs.Common.{◌≡◌, ℕ, ◌<◌, ◌≤◌, List, refl, subst, arith}
+use Rattle.std.proofs.Common.{◌≡◌, ℕ, ◌<◌, ◌≤◌, List, sym, subst, arith}
 use Rattle.std.specs.declared.option.Option.TheVariants.{Some, None}
-use Rattle.std.specs.Prelude.{IsTrue}
+use Rattle.std.specs.Prelude.{IsErrOf}
+use Rattle.std.specs.declared.result.Result.TheVariants.{Err}
+use Rattle.vp_io.specs.declared.answers.Reason.{Reason}
+use Rattle.md_rows.specs.declared.description.RawDescription.{RawDescription}
+use Rattle.md_fault.specs.declared.MdFault.TheVariants.{Bad}
 use Rattle.md_text.specs.Declarations.{Declared, Declares}
-use Rattle.md_text.specs.Heading.{is_out_of_range}
-use Rattle.md_text.specs.Rules.{is_declared_twice, is_undeclared, has_reserved_name, HasGoodTransfer, has_misused_hole, has_mode_in_mode, is_too_large}
-use Rattle.md_text.specs.Accepted.{Rule, BadByte, OtherVersion, NoForm, BadHeading, OutOfRange, DeclaredTwice, NotDeclared, ReservedName, WrongRoles, BadTransfer, MisusedHole, ModeInMode, TooLarge, TooMany, number_of, Breaks, DeclaresBad, Told, IsAccepted, HasBroken, HasBadHeading, HasWrongRoles, HasBrokenRow, HasTooMany}
+use Rattle.md_text.specs.Accepted.{Rule, BadByte, OtherVersion, NoForm, BadHeading, OutOfRange, DeclaredTwice, NotDeclared, ReservedName, WrongRoles, BadTransfer, MisusedHole, ModeInMode, TooLarge, TooMany, number_of, Breaks, DeclaresBad, Told, IsAccepted}
 use Rattle.md_text.proofs.Declaring.{declared_once}
 use Rattle.md_forms.specs.declared.rules.Told.{Told as Broken}
 use Rattle.md_forms.specs.SeenRules.{rule_of}
 use Rattle.md_parser.specs.FirstRules.{KeepsFirstRules}
 use Rattle.md_rules.specs.Broken.{BreaksBy, IsFirst}
+use Rattle.md_reader.specs.Refused.{IsRefused}
 
 from_one : (r : Rule) → 1 ≤ number_of r
 from_one BadByte = omega arith
@@ -94,3 +97,12 @@ told text d t p k first = record {
 
 pub accepted : (text : List ℕ) (d : Declared) → Declares text d → KeepsFirstRules text → IsFirst 1 15 d None → IsAccepted text
 accepted text d p k first = λ r line b. first r line (from_one r) (to_fourteen r) (of_declared text d line p k r b)
+
+-- the reason that is given for what is told
+pub refused :
+    (text : List ℕ) (t : Broken) (given reason : Reason) → Told text (rule_of t.rule) t.line → given.line ≡ t.line → given.rule ≡ number_of (rule_of t.rule)
+    → given.column ≡ 1 → given.detail ≡ 0 → IsErrOf {T = RawDescription} (Err (Bad given)) (Bad reason) → IsRefused text reason
+refused text t given reason tells line rule column detail e =
+    let same : given ≡ reason = cc in
+    subst (IsRefused text) same
+    (record { rule = rule_of t.rule; told = subst (Told text (rule_of t.rule)) (sym line) tells; number = rule; column = column; detail = detail })

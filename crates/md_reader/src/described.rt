@@ -1,10 +1,12 @@
 //! The description that an accepted text says.
 
-ghost use Rattle.std.specs.Prelude.{◌≡◌, ◌≤◌, length, IfOk};
+ghost use Rattle.std.specs.Prelude.{◌≡◌, All, IfOk};
 ghost use Rattle.md_text.specs.Expansion.{expansions};
 ghost use Rattle.md_text.specs.Accepted.{description_of};
 ghost use Rattle.md_forms.specs.Seen.{declarations_of, declared_of};
 ghost use Rattle.md_expand.specs.Expanded.{AllExpanded};
+ghost use Rattle.md_expand.specs.Limits.{IsWithinLimits};
+ghost use Rattle.md_reader.specs.Ranges.{AreInRange};
 
 use crate::names::{flags, registers};
 use crate::numbers::{data, machine_name, memory, stack};
@@ -21,16 +23,18 @@ pub fn described(
     declared: &Declared,
     rows: &[Expanded],
 ) -> Result<RawDescription, NoMemory>
-    requires { AllExpanded (expansions declared.now.width (declarations_of declared.now.all.now)) rows.now }
+    requires in_range { AreInRange (declarations_of declared.now.all) }
+    requires rows { AllExpanded (expansions declared.now.width (declarations_of declared.now.all)) rows.now }
+    requires limits { All IsWithinLimits rows.now }
     ensures { IfOk result (λ d. d ≡ description_of (declared_of declared.now)) }
 {
     let all = declared.all.as_slice();
     Ok(RawDescription {
         name: machine_name(alloc, all)?,
         word: declared.width,
-        memory: memory(all)?,
-        base: data(all)?,
-        stack: stack(all)?,
+        memory: memory(all),
+        base: data(all),
+        stack: stack(all),
         registers: registers(alloc, all)?,
         flags: flags(alloc, all)?,
         rows: rows_of(alloc, rows)?,

@@ -2,7 +2,8 @@
 
 ghost use Rattle.std.specs.Prelude.{◌≡◌, ◌++◌, ◌∷◌, [], IfOk};
 ghost use Rattle.md_text.specs.Declarations.{registers_in, flags_in};
-ghost use Rattle.md_forms.specs.Seen.{declaration_of, declarations_of};
+ghost use Rattle.md_forms.specs.Seen.{form_of, declaration_of, declarations_of};
+ghost use Rattle.md_reader.specs.Ranges.{IsInRange, AreInRange};
 
 use crate::numbers::small;
 use md_forms::{Declaration, Form};
@@ -16,11 +17,12 @@ fn with_register(
     mut registers: Items<Register>,
     declaration: &Declaration,
 ) -> Result<Items<Register>, NoMemory>
-    ensures { IfOk result (λ more. more ≡ registers.entry ++ registers_in (declaration_of declaration.now ∷ [])) }
+    requires { IsInRange (form_of declaration.now.form) }
+    ensures { IfOk result (λ more. more ≡ registers ++ registers_in (declaration_of declaration.now ∷ [])) }
 {
     if let Form::RegisterLine { number, name, role } = &declaration.form {
         registers.push(Register {
-            number: small(*number)?,
+            number: small(*number),
             name: Items::from_slice(alloc, name.as_slice())?,
             role: *role,
         })?;
@@ -29,6 +31,7 @@ fn with_register(
 }
 
 pub fn registers(alloc: Global, all: &[Declaration]) -> Result<Items<Register>, NoMemory>
+    requires { AreInRange (declarations_of all.now) }
     ensures { IfOk result (λ registers. registers ≡ registers_in (declarations_of all.now)) }
 {
     let mut registers = Items::new(alloc);
@@ -43,11 +46,12 @@ fn with_flag(
     mut flags: Items<FlagName>,
     declaration: &Declaration,
 ) -> Result<Items<FlagName>, NoMemory>
-    ensures { IfOk result (λ more. more ≡ flags.entry ++ flags_in (declaration_of declaration.now ∷ [])) }
+    requires { IsInRange (form_of declaration.now.form) }
+    ensures { IfOk result (λ more. more ≡ flags ++ flags_in (declaration_of declaration.now ∷ [])) }
 {
     if let Form::FlagLine { number, name } = &declaration.form {
         flags.push(FlagName {
-            number: small(*number)?,
+            number: small(*number),
             name: Items::from_slice(alloc, name.as_slice())?,
         })?;
     }
@@ -55,6 +59,7 @@ fn with_flag(
 }
 
 pub fn flags(alloc: Global, all: &[Declaration]) -> Result<Items<FlagName>, NoMemory>
+    requires { AreInRange (declarations_of all.now) }
     ensures { IfOk result (λ flags. flags ≡ flags_in (declarations_of all.now)) }
 {
     let mut flags = Items::new(alloc);

@@ -1,26 +1,28 @@
 //! The numbers of the heading, and the machine's name.
 
-ghost use Rattle.std.specs.Prelude.{◌≡◌, IfOk};
+ghost use Rattle.std.specs.Prelude.{◌≡◌, ◌<◌, ◌^◌, IfOk};
 ghost use Rattle.md_text.specs.Declarations.{number_of, machine_name_in, memory_in, data_in, stack_in};
 ghost use Rattle.md_forms.specs.Seen.{declarations_of};
+ghost use Rattle.md_reader.specs.Ranges.{AreInRange};
 
 use md_forms::{Declaration, Form};
 use rtl_tree::NoMemory;
 use sqlite_items::Items;
 use std::alloc::Global;
 
-/// A number of an accepted text, which is in its range; any other isn't held.
-fn size(number: i64) -> Result<u32, NoMemory>
-    ensures { IfOk result (λ n. n ≡ number_of number) }
+fn size(number: i64) -> u32
+    requires { number_of number < 2 ^ 32 }
+    ensures { result ≡ number_of number }
 {
-    u32::try_from(number.unsigned_abs()).map_err(|_| NoMemory)
+    number.unsigned_abs() as u32
 }
 
 /// The number of a register or flag.
-pub fn small(number: i64) -> Result<u8, NoMemory>
-    ensures { IfOk result (λ n. n ≡ number_of number) }
+pub fn small(number: i64) -> u8
+    requires { number_of number < 64 }
+    ensures { result ≡ number_of number }
 {
-    u8::try_from(number.unsigned_abs()).map_err(|_| NoMemory)
+    number.unsigned_abs() as u8
 }
 
 pub fn machine_name(alloc: Global, all: &[Declaration]) -> Result<Items<u8>, NoMemory>
@@ -34,35 +36,41 @@ pub fn machine_name(alloc: Global, all: &[Declaration]) -> Result<Items<u8>, NoM
     Ok(Items::new(alloc))
 }
 
-pub fn memory(all: &[Declaration]) -> Result<u32, NoMemory>
-    ensures { IfOk result (λ n. n ≡ memory_in (declarations_of all.now)) }
+/// The bytes of memory.
+pub fn memory(all: &[Declaration]) -> u32
+    requires { AreInRange (declarations_of all.now) }
+    ensures { result ≡ memory_in (declarations_of all.now) }
 {
     for declaration in all {
         if let Form::MemorySize(number) = &declaration.form {
             return size(*number);
         }
     }
-    Ok(0)
+    0
 }
 
-pub fn data(all: &[Declaration]) -> Result<u32, NoMemory>
-    ensures { IfOk result (λ n. n ≡ data_in (declarations_of all.now)) }
+/// The address at which data begins.
+pub fn data(all: &[Declaration]) -> u32
+    requires { AreInRange (declarations_of all.now) }
+    ensures { result ≡ data_in (declarations_of all.now) }
 {
     for declaration in all {
         if let Form::DataBegin(number) = &declaration.form {
             return size(*number);
         }
     }
-    Ok(0)
+    0
 }
 
-pub fn stack(all: &[Declaration]) -> Result<u32, NoMemory>
-    ensures { IfOk result (λ n. n ≡ stack_in (declarations_of all.now)) }
+/// The bytes that the stack may take.
+pub fn stack(all: &[Declaration]) -> u32
+    requires { AreInRange (declarations_of all.now) }
+    ensures { result ≡ stack_in (declarations_of all.now) }
 {
     for declaration in all {
         if let Form::StackSize(number) = &declaration.form {
             return size(*number);
         }
     }
-    Ok(0)
+    0
 }

@@ -1,23 +1,25 @@
 //! Whole texts.
 
-ghost use Rattle.std.specs.Prelude.{◌≡◌, ◌≤◌, ◌-◌, ◌^◌, ℕ, List, length, IfOk, IsErrOf, None, Some};
+ghost use Rattle.std.specs.Prelude.{◌≡◌, ◌≤◌, ◌-◌, ◌^◌, length, take, IfOk, IsErrOf, None, Some};
 ghost use Rattle.vp_io.specs.declared.answers.Reason.{Reason as Telling};
+ghost use Rattle.md_text.specs.Numbered.{IsNumbered};
+ghost use Rattle.md_text.specs.Expansion.{expansions};
 ghost use Rattle.md_text.specs.Accepted.{Says, description_of};
 ghost use Rattle.md_forms.specs.declared.rules.Told.{Told as Broken};
-ghost use Rattle.md_forms.specs.Seen.{declared_of};
-ghost use Rattle.md_rules.specs.Least.{IsNumbered};
+ghost use Rattle.md_forms.specs.Seen.{declarations_of, declared_of};
 ghost use Rattle.md_rules.specs.Broken.{IsFirst};
+ghost use Rattle.md_expand.specs.Expanded.{AllExpanded};
 ghost use Rattle.md_reader.specs.Refused.{IsRefused};
 
 use crate::described::described;
 use crate::refused::reason_of;
 use crate::told::told_from_transfers;
-use md_expand::{Expanded, MOST_ROWS, Scope, expand, fit_in_64};
+use md_expand::{Expanded, MOST_ROWS, Scope, expand};
 use md_fault::MdFault;
 use md_forms::{Declared, Told};
 use md_parser::{ReadFault, read_declared};
 use md_rows::RawDescription;
-use md_rules::{is_numbered, told_before_transfers};
+use md_rules::told_before_transfers;
 use rtl_tree::NoMemory;
 use std::alloc::Global;
 
@@ -40,21 +42,20 @@ impl From<NoMemory> for Trouble {
 
 /// The first rows without modes, one more than there may be.
 fn first_rows(alloc: Global, declared: &Declared) -> Result<Vec<Expanded>, NoMemory>
-    requires { IsNumbered (declared_of declared.now) }
-    ensures { IfOk result (λ rows. AllExpanded (take 4097 (expansions declared.now.width (declarations_of declared.now.all.now))) rows.items) }
+    requires numbered { IsNumbered (declared_of declared.now) }
+    requires kept { IsFirst 1 10 (declared_of declared.now) None }
+    ensures { IfOk result (λ rows. AllExpanded (take 4097 (expansions declared.now.width (declarations_of declared.now.all))) rows.items) }
 {
-    let all = declared.all.as_slice();
-    if !fit_in_64(all) {
-        return Err(NoMemory);
-    }
-    let scope = Scope::new(alloc, declared.width, all)?;
+    let scope = Scope::new(alloc, declared.width, declared.all.as_slice())?;
     expand(alloc, &scope, MOST_ROWS + 1)
 }
 
-/// The description of what breaks none of the rules up to the roles of registers.
+/// The description of what breaks none of the rules up to the roles of registers, or the first rule that it breaks.
 fn described_by_rows(alloc: Global, declared: &Declared) -> Result<RawDescription, Trouble>
     requires numbered { IsNumbered (declared_of declared.now) }
-    ensures whole { IfOk result (λ d. (d ≡ description_of (declared_of declared.now)) × IsFirst 10 15 (declared_of declared.now) None) }
+    requires kept { IsFirst 1 10 (declared_of declared.now) None }
+    ensures same { IfOk result (λ d. d ≡ description_of (declared_of declared.now)) }
+    ensures whole { IfOk result (λ d. IsFirst 10 15 (declared_of declared.now) None) }
     ensures broken { (t : Broken) → IsErrOf result (Trouble.Broken t) → IsFirst 10 15 (declared_of declared.now) (Some t) }
 {
     let rows = first_rows(alloc, declared)?;
@@ -66,12 +67,11 @@ fn described_by_rows(alloc: Global, declared: &Declared) -> Result<RawDescriptio
 
 /// The description of what is declared, or the first rule that it breaks.
 fn described_or_told(alloc: Global, declared: &Declared) -> Result<RawDescription, Trouble>
-    ensures whole { IfOk result (λ d. (d ≡ description_of (declared_of declared.now)) × IsFirst 1 15 (declared_of declared.now) None) }
+    requires { IsNumbered (declared_of declared.now) }
+    ensures same { IfOk result (λ d. d ≡ description_of (declared_of declared.now)) }
+    ensures whole { IfOk result (λ d. IsFirst 1 15 (declared_of declared.now) None) }
     ensures broken { (t : Broken) → IsErrOf result (Trouble.Broken t) → IsFirst 1 15 (declared_of declared.now) (Some t) }
 {
-    if !is_numbered(declared) {
-        return Err(Trouble::NoMemory);
-    }
     match told_before_transfers(alloc, declared)? {
         Some(told) => Err(Trouble::Broken(told)),
         None => described_by_rows(alloc, declared),

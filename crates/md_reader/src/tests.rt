@@ -1,7 +1,9 @@
 //! Descriptions of machines, and refused ones, as worked out by hand.
 
-use crate::edits::{bytes, counts, forms, headings, holes, modes, names_again, ranges, reserved_names, roles, sizes, transfers, uses, versions};
-use crate::edits::Edit;
+use crate::edits::{
+    Edit, bytes, counts, forms, headings, holes, modes, names_again, ranges, reserved_names, roles,
+    sizes, transfers, uses, versions,
+};
 use crate::read_description;
 use crate::texts::{duo, mips, pdp11, tri};
 use md_fault::MdFault;
@@ -15,7 +17,9 @@ fn row_count(alloc: Global, text: &[u8]) -> Option<usize> {
     if text.len() > 100_000 {
         return None;
     }
-    read_description(alloc, text).ok().map(|description| description.rows.len())
+    read_description(alloc, text)
+        .ok()
+        .map(|description| description.rows.len())
 }
 
 #[test]
@@ -61,7 +65,12 @@ fn edited(alloc: Global, first: usize, count: usize, new: &[u8]) -> Result<Vec<u
 fn first_untold(alloc: Global, rule: u8, edits: &[Edit]) -> Result<Option<Edit>, NoMemory> {
     for (first, count, new, line) in edits {
         let text = edited(alloc, *first, *count, new)?;
-        let told = Reason { line: *line, column: 1, rule, detail: 0 };
+        let told = Reason {
+            line: *line,
+            column: 1,
+            rule,
+            detail: 0,
+        };
         if reason(alloc, &text) != Some(told) {
             return Ok(Some((*first, *count, new, *line)));
         }

@@ -3,10 +3,11 @@
 ghost use Rattle.std.specs.Prelude.{◌≡◌, ◌≤◌, ◌+◌, ℕ, take, IfOk};
 ghost use Rattle.md_text.specs.Accepted.{number_of};
 ghost use Rattle.md_text.specs.Declarations.{Declared as AllSaid};
+ghost use Rattle.md_text.specs.Numbered.{IsNumbered};
 ghost use Rattle.md_text.specs.Expansion.{expansions};
 ghost use Rattle.md_forms.specs.Seen.{declarations_of, declared_of};
 ghost use Rattle.md_forms.specs.SeenRules.{rule_of};
-ghost use Rattle.md_rules.specs.Least.{IsLeast, IsNumbered};
+ghost use Rattle.md_rules.specs.Least.{IsLeast};
 ghost use Rattle.md_rules.specs.Broken.{BreaksBy, IsFirst};
 ghost use Rattle.md_expand.specs.Expanded.{AllExpanded};
 ghost use Rattle.md_row_rules.specs.RowRules.{rule_named};

@@ -1,0 +1,11 @@
+use Rattle.std.proofs.Common.{◌≡◌, take, drop}
+use Rattle.md_text.specs.Declarations.{registers_in}
+use Rattle.md_forms.specs.Seen.{declarations_of}
+use Rattle.md_reader.specs.Ranges.{AreInRange}
+use Rattle.md_reader.proofs.names.registers.Given as goal
+
+abbrev pub invariant-loop-declaration : goal.invariant-loop-declaration
+invariant-loop-declaration l = record {
+  so_far : l.registers ≡ registers_in (declarations_of (take l.declaration-index l.all));
+  in_range : AreInRange (declarations_of (drop l.declaration-index l.all));
+}

@@ -5,9 +5,11 @@ use Rattle.std.proofs.lemmas.List.{append_cancel_right}
 use Rattle.std.specs.Prelude.{◌&&◌}
 use Rattle.std.specs.List.{list_all}
 use Rattle.rtl_word.specs.Words.{IsWordSize}
+use Rattle.rtl_tree.specs.declared.c_names.Names.{Names}
 use Rattle.rtl_tree.specs.Names.{AreNames}
 use Rattle.rtl_tree.specs.Trees.{Tree}
 use Rattle.rtl_spelling.specs.declared.signs.Sign.TheVariants as sign
+use Rattle.rtl_spelling.specs.Holes.{Open}
 use Rattle.rtl_spelling.specs.Tokens.{Token, Mark, spelling, Lexes, at_end, one_token}
 use Rattle.rtl_spelling.specs.Spelling.{Context, IsContext, Placed, Said, IsSpelled, tokens_in}
 use Rattle.rtl_spelling.specs.Reading.{Read, Trouble, ◌>>=◌, gives, tree, transfer, reading, answer, settled}
@@ -21,6 +23,7 @@ use Rattle.rtl_spelling.proofs.Begun.{within_from, within_to}
 use Rattle.rtl_spelling.proofs.Complete.{reads_back}
 use Rattle.rtl_spelling.proofs.Lexed.{at_most_one_lexed}
 use Rattle.rtl_spelling.proofs.Answered.{reading_answers, spelled_is_read}
+use Rattle.rtl_text.specs.Seen.{reading_context}
 use Rattle.rtl_text.proofs.Longest.{some_bytes}
 use Rattle.md_text.proofs.FormTexts.{spelled_once}
 use Rattle.md_text.specs.Forms.{OpenTree, OpenTransfer, SpellsTree, SpellsMoves, context, open_from, hole_names, has_no_label, goal_has_no_label}
@@ -29,7 +32,7 @@ use Rattle.md_open.specs.WholeTrees.{IsWholeTree}
 use Rattle.md_open.proofs.HoleNames.{few_names}
 
 no_names : AreNames []
-no_names = record { names = All-nil _; different = λ i j d e l k. absurd (omega (arith, k)); many = omega arith }
+no_names = record { names = All-nil _; different = λ i j d e l. absurd (omega (arith, l)); many = omega arith }
 
 is_context : (w : ℕ) (names : List (List ℕ)) → IsWordSize w → IsContext (context w names)
 is_context w names h = record { size = h; objects = no_names; functions = no_names; apart = λ name c d. absurd (omega (arith, c.1)) }
@@ -123,8 +126,8 @@ no_tree c w names ts f size same e u h =
 
 -- the context of a text
 
-pub same_context : (w : ℕ) (objects functions names : List (List ℕ)) (c : Context) → c.width ≡ w → c.objects ≡ objects → c.functions ≡ functions → c.holes ≡ open_from 0 names → objects ≡ [] → functions ≡ [] → c ≡ context w names
-same_context w objects functions names c a b d h e f = λ i. record { width = a i; objects = (b ∙ e) i; functions = (d ∙ f) i; holes = h i }
+pub same_context : (w : ℕ) (n : Names) (names : List (List ℕ)) (holes : List Open) → n.objects ≡ [] → n.functions ≡ [] → holes ≡ open_from 0 names → reading_context w n holes ≡ context w names
+same_context w n names holes o f h = λ i. record { width = w; objects = o i; functions = f i; holes = h i }
 
 -- few holes stand in a short text
 

@@ -14,9 +14,9 @@ use crate::fault::OpenFault;
 use crate::holes::{names_of_holes, open_holes};
 use crate::labels::have_no_label;
 use crate::lexemes::lexemes;
+use crate::names::no_names;
 use md_forms::{OpenTransfer, Said};
 use rtl_text::{Context, Token, Trouble, item};
-use rtl_tree::{NameList, Names};
 use sqlite_items::Items;
 use std::alloc::Global;
 
@@ -58,13 +58,10 @@ fn spelled_moves(
     ensures refused { IsErrOf result OpenFault.NoForm → (moves : List Spelled) → IsSpelled (context bits names.now) moves (tokens_of tokens.now) → ⊥ }
 {
     let holes = open_holes(alloc, names)?;
-    let none = Names {
-        objects: NameList::new(alloc),
-        functions: NameList::new(alloc),
-    };
+    let empty = no_names(alloc);
     let c = Context {
         bits,
-        names: &none,
+        names: &empty,
         holes: holes.as_slice(),
     };
     match read_moves(alloc, &c, tokens) {
@@ -75,7 +72,7 @@ fn spelled_moves(
     }
 }
 
-/// The transfer with holes that a text spells on words of so many bits.
+/// The transfer with holes that a whole text spells on words of so many bits; the numbers are the signed readings of words.
 pub fn open_transfer(alloc: Global, bits: u32, text: &[u8]) -> Result<OpenTransfer, OpenFault>
     requires size { IsWordSize bits }
     requires short { length text.now ≤ 255 }

@@ -12,9 +12,10 @@ use crate::fault::OpenFault;
 use crate::holes::{names_of_holes, open_holes};
 use crate::labels::has_no_label;
 use crate::lexemes::lexemes;
+use crate::names::no_names;
 use md_forms::OpenTree;
 use rtl_text::{Context, Sign, Token, Trouble, tree};
-use rtl_tree::{Expr, NameList, Names};
+use rtl_tree::Expr;
 use sqlite_items::Items;
 use std::alloc::Global;
 
@@ -44,13 +45,10 @@ fn spelled_tree(
     ensures refused { IsErrOf result OpenFault.NoForm → (t : Tree) → IsWholeTree (context bits names.now) t (tokens_of tokens.now) → ⊥ }
 {
     let holes = open_holes(alloc, names)?;
-    let none = Names {
-        objects: NameList::new(alloc),
-        functions: NameList::new(alloc),
-    };
+    let empty = no_names(alloc);
     let c = Context {
         bits,
-        names: &none,
+        names: &empty,
         holes: holes.as_slice(),
     };
     match tree(alloc, &c, ROOM, tokens) {
@@ -67,7 +65,7 @@ fn spelled_tree(
     }
 }
 
-/// The tree with holes that a text spells on words of so many bits.
+/// The tree with holes that a whole text spells on words of so many bits; the numbers are the signed readings of words.
 pub fn open_tree(alloc: Global, bits: u32, text: &[u8]) -> Result<OpenTree, OpenFault>
     requires size { IsWordSize bits }
     requires short { length text.now ≤ 255 }

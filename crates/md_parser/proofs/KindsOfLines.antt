@@ -9,17 +9,13 @@ use Rattle.md_forms.specs.Seen.{form_of}
 use Rattle.md_parser.specs.declared.fault.FormFault.{FormFault}
 use Rattle.md_parser.specs.declared.keywords.Keyword.{Keyword}
 use Rattle.md_parser.specs.declared.keywords.Keyword.TheVariants.{Version, MachineName, WordBits, MemorySize, DataBegin, StackSize, Register, Flag, Class, Mode, Row}
-use Rattle.md_parser.specs.Keywords.{keyword_text, keyword_of}
+use Rattle.md_parser.specs.Keywords.{Begins, keyword_text, keyword_of}
 use Rattle.md_parser.specs.Refusals.{RefusesKind}
 
 abbrev tag : List ℕ → ℕ
 tag line = get_or line 0 0 + 256 * get_or line 1 0
 
--- a line begins with its keyword
-record Begins (line : List ℕ) (k : Keyword) : Type 0 where
-  rest : List ℕ
-  is : line ≡ keyword_text k ++ rest
-
+-- a line begins with the keyword of its form
 begins : (w : ℕ) (line : List ℕ) (f : says.Form) → HasForm w line f → Begins line (keyword_of f)
 begins w line says.Version h = record { rest = []; is = h }
 begins w line (says.MachineName name) h = record { rest = name; is = h.text }
@@ -61,8 +57,8 @@ keyword_is Class rest = refl
 keyword_is Mode rest = refl
 keyword_is Row rest = refl
 
-same_keyword : (line : List ℕ) (j k : Keyword) (r s : List ℕ) → line ≡ keyword_text j ++ r → line ≡ keyword_text k ++ s → j ≡ k
-same_keyword line j k r s e f = sym (keyword_is j r) ∙ ap (λ l. keyword_by (tag l)) (sym e ∙ f) ∙ keyword_is k s
+same_keyword : (line : List ℕ) (j k : Keyword) → Begins line j → Begins line k → j ≡ k
+same_keyword line j k b c = sym (keyword_is j b.rest) ∙ ap (λ l. keyword_by (tag l)) (sym b.is ∙ c.is) ∙ keyword_is k c.rest
 
 by_kind : (w : ℕ) (line : List ℕ) (f : says.Form) → RefusesKind (keyword_of f) w line → HasForm w line f → ⊥
 by_kind w line says.Version r h = r h
@@ -77,14 +73,13 @@ by_kind w line (says.ClassLine name registers) r h = r name registers h
 by_kind w line (says.ModeLine name text tree) r h = r name text tree h
 by_kind w line (says.RowLine text transfer) r h = r text transfer h
 
-pub none_has : (w : ℕ) (line : List ℕ) (k : Keyword) (rest : List ℕ) → line ≡ keyword_text k ++ rest → RefusesKind k w line → (f : says.Form) → HasForm w line f → ⊥
-none_has w line k rest e r f h =
-    let b = begins w line f h in
+pub none_has : (w : ℕ) (line : List ℕ) (k : Keyword) → Begins line k → RefusesKind k w line → (f : says.Form) → HasForm w line f → ⊥
+none_has w line k b r f h =
     let P : Keyword → Type 0 = λ k. RefusesKind k w line in
-    by_kind w line f (subst P (same_keyword line k (keyword_of f) rest b.rest e b.is) r) h
+    by_kind w line f (subst P (same_keyword line k (keyword_of f) b (begins w line f h)) r) h
 
-pub no_keyword : (w : ℕ) (line : List ℕ) → ((k : Keyword) (rest : List ℕ) → line ≡ keyword_text k ++ rest → ⊥) → (f : says.Form) → HasForm w line f → ⊥
-no_keyword w line none f h = let b = begins w line f h in none (keyword_of f) b.rest b.is
+pub no_keyword : (w : ℕ) (line : List ℕ) → ((k : Keyword) → Begins line k → ⊥) → (f : says.Form) → HasForm w line f → ⊥
+no_keyword w line none f h = none (keyword_of f) (begins w line f h)
 
 pub for_bits : (w : ℕ) (line : List ℕ) (r : Result Form FormFault) → IfOk r (λ f. (v : ℕ) → HasForm v line (form_of f)) → IfOk r (λ f. HasForm w line (form_of f))
 for_bits w line (Ok f) h = h w

@@ -1,5 +1,5 @@
 -- The words with which lines begin.
-use Rattle.std.specs.Prelude.{ℕ, List, codes}
+use Rattle.std.specs.Prelude.{◌≡◌, ℕ, List, ◌++◌, codes}
 use Rattle.md_text.specs.Forms as says
 use Rattle.md_parser.specs.declared.keywords.Keyword.{Keyword}
 use Rattle.md_parser.specs.declared.keywords.Keyword.TheVariants.{Version, MachineName, WordBits, MemorySize, DataBegin, StackSize, Register, Flag, Class, Mode, Row}
@@ -17,6 +17,11 @@ keyword_text Flag = codes "flag "
 keyword_text Class = codes "class "
 keyword_text Mode = codes "mode "
 keyword_text Row = codes "row "
+
+-- the line begins with the keyword
+pub record Begins (line : List ℕ) (k : Keyword) : Type 0 where
+  pub rest : List ℕ
+  pub is : line ≡ keyword_text k ++ rest
 
 abbrev pub keyword_of : says.Form → Keyword
 keyword_of says.Version = Version

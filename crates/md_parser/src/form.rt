@@ -108,7 +108,7 @@ pub fn read_form(alloc: Global, bits: u32, line: &[u8]) -> Result<Form, FormFaul
     ensures found { IfOk result (λ form. HasForm bits line.now (form_of form)) }
     ensures refused { IsErrOf result FormFault.NoForm → (form : Said) → HasForm bits line.now form → ⊥ }
 {
-    let Some((keyword, _rest)) = first_word(line) else {
+    let Some(keyword) = first_word(line) else {
         return Err(FormFault::NoForm);
     };
     line_of(alloc, bits, keyword, line)

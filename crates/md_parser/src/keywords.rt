@@ -1,8 +1,8 @@
 //! The word with which a line begins.
 
-ghost use Rattle.std.specs.Prelude.{◌≡◌, ◌≢◌, ℕ, List, ◌++◌, IfSome, IfNone};
+ghost use Rattle.std.specs.Prelude.{◌≡◌, IfSome, IfNone};
 ghost use Rattle.md_parser.specs.declared.keywords.Keyword.{Keyword as Begun};
-ghost use Rattle.md_parser.specs.Keywords.{keyword_text};
+ghost use Rattle.md_parser.specs.Keywords.{Begins, keyword_text};
 
 use md_lines::after_word;
 
@@ -41,7 +41,7 @@ fn text_of(keyword: Keyword) -> &'static [u8]
     }
 }
 
-/// All of them.
+/// All keywords.
 const KEYWORDS: [Keyword; 11] = [
     Keyword::Version,
     Keyword::MachineName,
@@ -56,14 +56,14 @@ const KEYWORDS: [Keyword; 11] = [
     Keyword::Row,
 ];
 
-/// The word with which the line begins, and what follows it.
-pub fn first_word(line: &[u8]) -> Option<(Keyword, &[u8])>
-    ensures found { IfSome result (λ parts. line.now ≡ keyword_text parts.0 ++ parts.1.now) }
-    ensures none { IfNone result ((keyword : Begun) (rest : List ℕ) → line.now ≢ keyword_text keyword ++ rest) }
+/// The keyword with which the line begins.
+pub fn first_word(line: &[u8]) -> Option<Keyword>
+    ensures found { IfSome result (λ keyword. Begins line.now keyword) }
+    ensures none { IfNone result ((keyword : Begun) → Begins line.now keyword → ⊥) }
 {
     for keyword in KEYWORDS {
-        if let Some(rest) = after_word(line, text_of(keyword)) {
-            return Some((keyword, rest));
+        if let Some(_rest) = after_word(line, text_of(keyword)) {
+            return Some(keyword);
         }
     }
     None

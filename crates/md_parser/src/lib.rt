@@ -1,13 +1,15 @@
-//! Reads the lines of a description into what they say.
+//! Reads the lines of a machine description into what they declare.
+//!
+//! `read_declared` gives what a text declares, or which of rules 1 to 3 it breaks: a line with a byte that can't be printed, too long or
+//! without its end; another version; a line of no form. What it gives is numbered as the rules behind these want it. `read_form` gives what
+//! one line says, as `md_text` has it, or shows that the line says nothing.
 //!
 //! - `keywords`: the word with which a line begins.
 //! - `owned`: names and pieces that outlive the text.
 //! - `plain`: the lines of the heading, of registers, flags and classes.
 //! - `bars`: the lines of rows and modes.
 //! - `form` and `declared`: what any line says, and what the lines of a text declare.
-//! - `text`: what a whole text declares, or which of rules 1 to 3 it breaks.
-//!
-//! Each function gives the form that `md_text` says a line has, or shows that it has none.
+//! - `text`: what a whole text declares.
 #![tactic(auto)]
 
 mod bars;
@@ -23,7 +25,6 @@ mod plain;
 mod tests;
 mod text;
 
-pub use declared::{LinesFault, declarations, width_of};
 pub use fault::FormFault;
 pub use form::read_form;
 pub use text::{ReadFault, read_declared};

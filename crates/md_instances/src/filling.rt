@@ -106,13 +106,24 @@ fn filled_assign(alloc: Global, assign: &Assign, binding: &Binding) -> Result<As
     })
 }
 
+fn filled_list(
+    alloc: Global,
+    list: &[Assign],
+    binding: &Binding,
+) -> Result<SmallVec<Assign, 3>, NoMemory>
+    ensures { IfOk result (λ made. made.items ≡ map (filled_move binding.now) list.now) }
+{
+    let mut made = SmallVec::new(alloc);
+    for assign in list {
+        made.push(filled_assign(alloc, assign, binding)?)?;
+    }
+    Ok(made)
+}
+
 /// The transfer that a row makes with these values in its holes.
 pub fn fill_row(alloc: Global, row: &Row, binding: &Binding) -> Result<Effects, NoMemory>
     ensures { IfOk result (λ made. made ≡ effects_with row.now binding.now) }
 {
-    let mut list = SmallVec::new(alloc);
-    for assign in row.effects.list.as_slice() {
-        list.push(filled_assign(alloc, assign, binding)?)?;
-    }
+    let list = filled_list(alloc, row.effects.list.as_slice(), binding)?;
     Ok(Effects { list })
 }

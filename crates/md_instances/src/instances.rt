@@ -13,11 +13,7 @@ use rtl_word::Word;
 use std::alloc::Global;
 
 /// The transfer that an instance makes.
-pub fn effects_of<W: Word>(
-    alloc: Global,
-    m: &Checked<W>,
-    i: &Instance,
-) -> Result<Effects, NoMemory>
+pub fn effects_of<W: Word>(alloc: Global, m: &Checked<W>, i: &Instance) -> Result<Effects, NoMemory>
     requires { IsOfDescription m.now i.now }
     ensures { (row : Line) → slice_get m.now.rows i.now.row ≡ Some row → IfOk result (λ e. e ≡ effects_with row i.now.binding) }
 {

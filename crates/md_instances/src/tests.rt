@@ -11,29 +11,33 @@ fn binary(alloc: Global, operator: BinOp, a: Expr, b: Expr) -> Result<Expr, NoMe
     Ok(Expr::Bin(operator, a, Box::new(alloc, b)?))
 }
 
-
-fn binding(alloc: Global) -> Result<Binding, NoMemory> {
+// A register, a number, a symbol and a label, and then more numbers.
+fn binding(alloc: Global) -> Binding {
     let values = [
         Bound::Reg(Cell::Hard(3)),
         Bound::Num(8),
         Bound::Sym(2),
         Bound::Label(Lab::Block(5)),
+        Bound::Num(4),
+        Bound::Num(5),
+        Bound::Num(6),
+        Bound::Num(7),
     ];
-    Ok(Binding {
-        list: SmallVec::from_slice(alloc, &values)?,
-    })
+    Binding {
+        list: SmallVec::from_buf(alloc, values),
+    }
 }
 
 #[test]
 fn each_hole_has_its_value(rt: HostRuntime) -> Result<(), Fail> {
     let alloc = rt.alloc();
-    let binding = binding(alloc)?;
+    let binding = binding(alloc);
     let table = [
         (Expr::Cell(Cell::Hole(0)), Expr::Cell(Cell::Hard(3))),
         (Expr::NumHole(1), Expr::Num(8)),
         (Expr::NameHole(2), Expr::Sym(2)),
         (Expr::NameHole(3), Expr::Label(Lab::Block(5))),
-        (Expr::NumHole(4), Expr::NumHole(4)),
+        (Expr::NumHole(8), Expr::NumHole(8)),
         (Expr::Cell(Cell::Flag(0)), Expr::Cell(Cell::Flag(0))),
     ];
     for (tree, expected) in &table {
@@ -88,7 +92,7 @@ fn row(alloc: Global) -> Result<Row, NoMemory> {
 #[test]
 fn a_row_is_filled(rt: HostRuntime) -> Result<(), Fail> {
     let alloc = rt.alloc();
-    let made = fill_row(alloc, &row(alloc)?, &binding(alloc)?)?;
+    let made = fill_row(alloc, &row(alloc)?, &binding(alloc))?;
     let [store, set] = made.list.as_slice() else {
         return Err(Fail::new("not two assignments"));
     };

@@ -1,0 +1,3 @@
+pub mod Pdp11
+pub mod Mips
+pub mod Shipped

@@ -22,4 +22,4 @@ mod tests;
 mod tri_edits;
 
 pub use edits::{Edit, edited};
-pub use verdict::{Verdict, verdict};
+pub use verdict::{Verdict, verdict_of};

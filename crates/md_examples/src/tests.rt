@@ -5,7 +5,7 @@ use crate::duo_rows::{counts, holes, modes, overlaps, registers, roles, sizes, t
 use crate::duo_shapes::shapes;
 use crate::machines::{duo, tri};
 use crate::tri_edits::{ranges as tri_ranges, shapes as tri_shapes};
-use crate::{Edit, Verdict, edited, verdict};
+use crate::{Edit, Verdict, edited, verdict_of};
 use rtl_tree::NoMemory;
 use shipped::{Shipped, Shipped::Mips, Shipped::Pdp11};
 use std::alloc::Global;
@@ -14,7 +14,7 @@ use vp_io::Reason;
 
 // Whether the text is accepted with this line.
 fn is_accepted(alloc: Global, text: &[u8], line: &[u8]) -> Result<bool, NoMemory> {
-    match verdict(alloc, text)? {
+    match verdict_of(alloc, text)? {
         Verdict::Accepted(told) => Ok(told.as_slice() == line),
         _ => Ok(false),
     }
@@ -23,7 +23,7 @@ fn is_accepted(alloc: Global, text: &[u8], line: &[u8]) -> Result<bool, NoMemory
 // Whether the text is refused for this reason.
 fn is_refused(alloc: Global, text: &[u8], line: u32, rule: u8, detail: u32) -> Result<bool, NoMemory> {
     let reason = Reason { line, column: 1, rule, detail };
-    match verdict(alloc, text)? {
+    match verdict_of(alloc, text)? {
         Verdict::Refused(told) => Ok(told == reason),
         _ => Ok(false),
     }

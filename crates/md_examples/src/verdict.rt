@@ -15,7 +15,7 @@ pub enum Verdict {
 }
 
 /// What is told of a text of at most 1,048,576 bytes.
-pub fn verdict(alloc: Global, text: &[u8]) -> Result<Verdict, NoMemory> {
+pub fn verdict_of(alloc: Global, text: &[u8]) -> Result<Verdict, NoMemory> {
     if text.len() > 1_048_576 {
         return Ok(Verdict::TooLong);
     }

@@ -17,35 +17,11 @@ use Rattle.md_reader.specs.Refused.{IsRefused}
 
 from_one : (r : Rule) → 1 ≤ number_of r
 from_one BadByte = omega arith
-from_one OtherVersion = omega arith
-from_one NoForm = omega arith
-from_one BadHeading = omega arith
-from_one OutOfRange = omega arith
-from_one DeclaredTwice = omega arith
-from_one NotDeclared = omega arith
-from_one ReservedName = omega arith
-from_one WrongRoles = omega arith
-from_one BadTransfer = omega arith
-from_one MisusedHole = omega arith
-from_one ModeInMode = omega arith
-from_one TooLarge = omega arith
-from_one TooMany = omega arith
+from_one _ = omega arith
 
 to_fourteen : (r : Rule) → number_of r < 15
 to_fourteen BadByte = omega arith
-to_fourteen OtherVersion = omega arith
-to_fourteen NoForm = omega arith
-to_fourteen BadHeading = omega arith
-to_fourteen OutOfRange = omega arith
-to_fourteen DeclaredTwice = omega arith
-to_fourteen NotDeclared = omega arith
-to_fourteen ReservedName = omega arith
-to_fourteen WrongRoles = omega arith
-to_fourteen BadTransfer = omega arith
-to_fourteen MisusedHole = omega arith
-to_fourteen ModeInMode = omega arith
-to_fourteen TooLarge = omega arith
-to_fourteen TooMany = omega arith
+to_fourteen _ = omega arith
 
 there : (P : Declared → ℕ → Type 0) (text : List ℕ) (d : Declared) (line : ℕ) → Declares text d → P d line → DeclaresBad P text line
 there P text d line p b = record { declared = d; declares = p; breaks = b }
@@ -57,33 +33,13 @@ of_text : (text : List ℕ) (d : Declared) (line : ℕ) → Declares text d → 
 of_text text d line p BadByte b = absurd b
 of_text text d line p OtherVersion b = absurd b
 of_text text d line p NoForm b = absurd b
-of_text text d line p BadHeading b = there _ text d line p b
-of_text text d line p OutOfRange b = there _ text d line p b
-of_text text d line p DeclaredTwice b = there _ text d line p b
-of_text text d line p NotDeclared b = there _ text d line p b
-of_text text d line p ReservedName b = there _ text d line p b
-of_text text d line p WrongRoles b = there _ text d line p b
-of_text text d line p BadTransfer b = there _ text d line p b
-of_text text d line p MisusedHole b = there _ text d line p b
-of_text text d line p ModeInMode b = there _ text d line p b
-of_text text d line p TooLarge b = there _ text d line p b
-of_text text d line p TooMany b = there _ text d line p b
+of_text text d line p _ b = there _ text d line p b
 
 of_declared : (text : List ℕ) (d : Declared) (line : ℕ) → Declares text d → KeepsFirstRules text → (r : Rule) → Breaks r text line → BreaksBy r d line
 of_declared text d line p k BadByte b = k BadByte line (omega arith) b
 of_declared text d line p k OtherVersion b = k OtherVersion line (omega arith) b
 of_declared text d line p k NoForm b = k NoForm line (omega arith) b
-of_declared text d line p k BadHeading b = here _ text d line p b
-of_declared text d line p k OutOfRange b = here _ text d line p b
-of_declared text d line p k DeclaredTwice b = here _ text d line p b
-of_declared text d line p k NotDeclared b = here _ text d line p b
-of_declared text d line p k ReservedName b = here _ text d line p b
-of_declared text d line p k WrongRoles b = here _ text d line p b
-of_declared text d line p k BadTransfer b = here _ text d line p b
-of_declared text d line p k MisusedHole b = here _ text d line p b
-of_declared text d line p k ModeInMode b = here _ text d line p b
-of_declared text d line p k TooLarge b = here _ text d line p b
-of_declared text d line p k TooMany b = here _ text d line p b
+of_declared text d line p k _ b = here _ text d line p b
 
 not_less : (m n : ℕ) → m < n → n ≤ m → ⊥
 not_less m n p q = omega arith

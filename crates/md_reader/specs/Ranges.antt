@@ -3,7 +3,7 @@ use Rattle.std.specs.Prelude.{◌<◌, ◌^◌, List, [], ◌∷◌}
 use Rattle.md_text.specs.Forms.{Form, MemorySize, DataBegin, StackSize, RegisterLine, FlagLine}
 use Rattle.md_text.specs.Declarations.{Declaration, number_of}
 
--- a size is that of a memory of 32 bits, and the number of a register or flag that of one
+-- sizes have 32 bits, registers have numbers below 64, and flags below 8
 abbrev pub IsInRange : Form → Type 0
 IsInRange (MemorySize z) = number_of z < 2 ^ 32
 IsInRange (DataBegin z) = number_of z < 2 ^ 32

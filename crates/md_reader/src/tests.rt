@@ -1,9 +1,6 @@
 //! Descriptions of machines, and refused ones, as worked out by hand.
 
-use crate::edits::{
-    Edit, bytes, counts, forms, headings, holes, modes, names_again, ranges, reserved_names, roles,
-    sizes, transfers, uses, versions,
-};
+use crate::edits::{EDITS, Edit};
 use crate::read_description;
 use crate::texts::{duo, mips, pdp11, tri};
 use md_fault::MdFault;
@@ -43,12 +40,12 @@ fn reason(alloc: Global, text: &[u8]) -> Option<Reason> {
 }
 
 // The machine with lines replaced; lines are counted from 1.
-fn edited(alloc: Global, first: usize, count: usize, new: &[u8]) -> Result<Vec<u8>, NoMemory> {
+fn edited(alloc: Global, first: usize, count: usize, new: &str) -> Result<Vec<u8>, NoMemory> {
     let mut text = Vec::new(alloc);
     let mut number = 1usize;
     for line in duo().split_inclusive(|byte| *byte == b'\n') {
         if number == first {
-            text.extend_from_slice(new)?;
+            text.extend_from_slice(new.as_bytes())?;
         }
         if number < first || number.saturating_sub(first) >= count {
             text.extend_from_slice(line)?;
@@ -56,7 +53,7 @@ fn edited(alloc: Global, first: usize, count: usize, new: &[u8]) -> Result<Vec<u
         number = number.saturating_add(1);
     }
     if number == first {
-        text.extend_from_slice(new)?;
+        text.extend_from_slice(new.as_bytes())?;
     }
     Ok(text)
 }
@@ -79,85 +76,22 @@ fn first_untold(alloc: Global, rule: u8, edits: &[Edit]) -> Result<Option<Edit>,
 }
 
 #[test]
-fn bytes_are_told(rt: HostRuntime) -> Result<(), Fail> {
-    assert_eq!(rt; first_untold(rt.alloc(), 1, &bytes())?, None);
+fn each_rule_is_told(rt: HostRuntime) -> Result<(), Fail> {
+    for (rule, edits) in EDITS {
+        assert_eq!(rt; first_untold(rt.alloc(), rule, edits)?, None);
+    }
     Ok(())
 }
 
-#[test]
-fn versions_are_told(rt: HostRuntime) -> Result<(), Fail> {
-    assert_eq!(rt; first_untold(rt.alloc(), 2, &versions())?, None);
-    Ok(())
-}
+// An alternative of 118 tokens, and a row with three of them.
+const LONG: &str =
+    "mode long | x x x x x x x x x x x x x x x x x x x x x x x x x x x x x x x x x x x x x x x x x x x x x x x x x x x x x x x x x x x x x x x x x x x x x x x x x x x x x x x x x x x x x x x x x x x x x x x x x x x x x x x x x x x x x x x x x x x x x x | 1\n\
+    row long <a:long> <b:long> <c:long> | r[0] = ((<a> + <b>) + <c>)\n";
 
 #[test]
-fn forms_are_told(rt: HostRuntime) -> Result<(), Fail> {
-    assert_eq!(rt; first_untold(rt.alloc(), 3, &forms())?, None);
-    Ok(())
-}
-
-#[test]
-fn headings_are_told(rt: HostRuntime) -> Result<(), Fail> {
-    assert_eq!(rt; first_untold(rt.alloc(), 4, &headings())?, None);
-    Ok(())
-}
-
-#[test]
-fn ranges_are_told(rt: HostRuntime) -> Result<(), Fail> {
-    assert_eq!(rt; first_untold(rt.alloc(), 5, &ranges())?, None);
-    Ok(())
-}
-
-#[test]
-fn names_again_are_told(rt: HostRuntime) -> Result<(), Fail> {
-    assert_eq!(rt; first_untold(rt.alloc(), 6, &names_again())?, None);
-    Ok(())
-}
-
-#[test]
-fn uses_are_told(rt: HostRuntime) -> Result<(), Fail> {
-    assert_eq!(rt; first_untold(rt.alloc(), 7, &uses())?, None);
-    Ok(())
-}
-
-#[test]
-fn reserved_names_are_told(rt: HostRuntime) -> Result<(), Fail> {
-    assert_eq!(rt; first_untold(rt.alloc(), 8, &reserved_names())?, None);
-    Ok(())
-}
-
-#[test]
-fn roles_are_told(rt: HostRuntime) -> Result<(), Fail> {
-    assert_eq!(rt; first_untold(rt.alloc(), 9, &roles())?, None);
-    Ok(())
-}
-
-#[test]
-fn transfers_are_told(rt: HostRuntime) -> Result<(), Fail> {
-    assert_eq!(rt; first_untold(rt.alloc(), 10, &transfers())?, None);
-    Ok(())
-}
-
-#[test]
-fn holes_are_told(rt: HostRuntime) -> Result<(), Fail> {
-    assert_eq!(rt; first_untold(rt.alloc(), 11, &holes())?, None);
-    Ok(())
-}
-
-#[test]
-fn modes_are_told(rt: HostRuntime) -> Result<(), Fail> {
-    assert_eq!(rt; first_untold(rt.alloc(), 12, &modes())?, None);
-    Ok(())
-}
-
-#[test]
-fn sizes_are_told(rt: HostRuntime) -> Result<(), Fail> {
-    assert_eq!(rt; first_untold(rt.alloc(), 13, &sizes())?, None);
-    Ok(())
-}
-
-#[test]
-fn counts_are_told(rt: HostRuntime) -> Result<(), Fail> {
-    assert_eq!(rt; first_untold(rt.alloc(), 14, &counts())?, None);
+fn long_rows_are_read(rt: HostRuntime) -> Result<(), Fail> {
+    let alloc = rt.alloc();
+    let text = edited(alloc, 49, 0, LONG)?;
+    assert_eq!(rt; row_count(alloc, &text), Some(37));
     Ok(())
 }

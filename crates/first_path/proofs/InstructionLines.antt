@@ -11,7 +11,8 @@ use Rattle.asm_token.proofs.Lines.{line_reads_back}
 use Rattle.md_rows.specs.declared.instance.Bound.TheVariants.{Num}
 use Rattle.md_rows.specs.declared.instance.Instance.{Instance}
 use Rattle.md_rows.specs.declared.row.Row.{Row}
-use Rattle.md_rows.specs.Instances.{no_names, IsInstance, AllFit, general_set, tokens_with}
+use Rattle.md_rows.specs.Instances.{no_names, IsInstance, AllFit, general_set}
+use Rattle.first_path.specs.Tokens.{tokens_with}
 use Rattle.first_path.specs.FirstDescription.{FirstForm, HaveNames, BeginsWith, word_hole, description_of}
 use Rattle.first_path.specs.Assembly.{HasTokensOf}
 use Rattle.first_path.specs.Compiled.{set_to, put, finish, instruction_line}

@@ -15,7 +15,8 @@ use Rattle.md_rows.specs.declared.row.Piece.TheVariants.{Hole as HolePiece}
 use Rattle.md_rows.specs.declared.instance.Bound.{Bound}
 use Rattle.md_rows.specs.declared.instance.Bound.TheVariants.{Reg, Num, Sym, Label}
 use Rattle.md_rows.specs.Fits.{printed}
-use Rattle.md_rows.specs.Instances.{no_names, hole_token, piece_token, tokens_with, AllFit}
+use Rattle.md_rows.specs.Instances.{no_names, hole_token, piece_token, AllFit}
+use Rattle.first_path.specs.Tokens.{tokens_with}
 use Rattle.first_path.specs.FirstDescription.{FirstForm, BeginsWith, piece_of, word_hole, row_of}
 use Rattle.first_path.proofs.HoleNumbers.{some_of, printed_tells}
 

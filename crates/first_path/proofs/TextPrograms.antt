@@ -9,7 +9,8 @@ use Rattle.asm_token.proofs.Steps.{spelled_once, past_gap, no_tokens, blank_or_t
 use Rattle.md_rows.specs.declared.description.RawDescription.{RawDescription}
 use Rattle.md_rows.specs.declared.instance.Bound.{Bound}
 use Rattle.md_rows.specs.declared.instance.Instance.{Instance}
-use Rattle.md_rows.specs.Instances.{no_names, general_set, tokens_with}
+use Rattle.md_rows.specs.Instances.{no_names, general_set}
+use Rattle.first_path.specs.Tokens.{tokens_with}
 use Rattle.first_path.specs.FirstDescription.{FirstForm, HaveNames, BeginsWith, IsDescription, description_of}
 use Rattle.first_path.specs.Assembly.{IsLines, IsSkipped, HasTokensOf, AreLinesOf, BeginsText, IsText}
 use Rattle.first_path.proofs.NoLineFeed.{IsNoFeed}

@@ -4,7 +4,8 @@ use Rattle.asm_token.specs.Tokens.{Name, Spells, is_blank_or_tab}
 use Rattle.md_rows.specs.declared.description.RawDescription.{RawDescription}
 use Rattle.md_rows.specs.declared.instance.Instance.{Instance}
 use Rattle.md_rows.specs.declared.row.Row.{Row}
-use Rattle.md_rows.specs.Instances.{no_names, IsInstance, tokens_with}
+use Rattle.md_rows.specs.Instances.{no_names, IsInstance}
+use Rattle.first_path.specs.Tokens.{tokens_with}
 
 -- the bytes are these lines, each ended by a line feed, which the last may lack
 pub data IsLines : List ℕ → List (List ℕ) → Type 0 where

@@ -7,7 +7,8 @@ use Rattle.md_rows.specs.declared.instance.Bound.{Bound}
 use Rattle.md_rows.specs.declared.instance.Bound.TheVariants.{Num}
 use Rattle.md_rows.specs.declared.instance.Instance.{Instance}
 use Rattle.md_rows.specs.declared.row.Row.{Row}
-use Rattle.md_rows.specs.Instances.{no_names, tokens_with}
+use Rattle.md_rows.specs.Instances.{no_names}
+use Rattle.first_path.specs.Tokens.{tokens_with}
 use Rattle.first_path.specs.declared.source.SourceProgram.{SourceProgram}
 
 -- what stands in the holes of a row that has a number hole, or none

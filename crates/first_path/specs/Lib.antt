@@ -1,3 +1,4 @@
+pub mod Tokens
 pub mod FirstDescription
 pub mod Assembly
 pub mod MachineRun

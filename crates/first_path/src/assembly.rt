@@ -5,7 +5,8 @@ ghost use Rattle.rtl_word.specs.Words.{IsWordSize};
 ghost use Rattle.asm_token.specs.Tokens.{Token as SpecToken, Number as NumberToken, spelling};
 ghost use Rattle.asm_token.specs.Seen.{token_of};
 ghost use Rattle.asm_token.specs.Line.{is_word, line_of};
-ghost use Rattle.md_rows.specs.Instances.{no_names, piece_token, hole_token, tokens_with};
+ghost use Rattle.md_rows.specs.Instances.{no_names, piece_token, hole_token};
+ghost use Rattle.first_path.specs.Tokens.{tokens_with};
 ghost use Rattle.first_path.specs.Compiled.{binding_of, instance_of, call_instructions, row_line, instruction_line, instruction_lines, compiled_text};
 ghost use Rattle.first_path.specs.Spacing.{separator, next_before, line_from, with_token};
 

@@ -60,7 +60,7 @@ pub record OverlapsBefore (d : RawDescription) (r : Row) (place line : ℕ) : Ty
   pub overlap : Overlap d r other
   pub line_is : other.line ≡ line
 
--- of the rows before a place, one of a line overlaps one before it, of another line
+-- of the rows before a place, one of a line overlaps one before it; both may be of one line
 pub record HasOverlapBefore (d : RawDescription) (place line earlier : ℕ) : Type 0 where
   pub at : ℕ
   pub before : at < place

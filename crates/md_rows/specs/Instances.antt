@@ -100,9 +100,9 @@ piece_token w names holes b (Num z) = Some (NumberToken z)
 piece_token w names holes b (Byte c) = Some (MarkToken c)
 piece_token w names holes b (HolePiece h) = hole_token w names (slice_get holes h) (slice_get b h)
 
--- the tokens of a row's line with these values in its holes
-abbrev pub tokens_with : ℕ → Naming → Row → List Bound → List Token
-tokens_with w names row b = filter_map (piece_token w names row.holes b) row.text
+-- these are the tokens of a row's line with these values in its holes: each piece of its text has one
+abbrev pub HasTokens : ℕ → Naming → Row → List Bound → List Token → Type 0
+HasTokens w names row b tokens = map (piece_token w names row.holes b) row.text ≡ map (λ t. Some t) tokens
 
 -- the bits of the general registers
 abbrev pub role_bit : Role → ℕ → ℕ
@@ -130,4 +130,4 @@ pub record IsInstance (d : RawDescription) (i : Instance) (row : Row) : Type 0 w
   pub has_row : slice_get d.rows i.row ≡ Some row
   pub short : longest_line d.registers row.holes row.text ≤ 640
   pub fit : AllFit d.word (general_set d.registers) row.holes i.binding
-  pub different : AllPairs (λ c d. c ≢ d) (filter_map (λ m. assigned_register m.to) (effects_with row i.binding))
+  pub different : AllPairs (λ a b. a ≢ b) (filter_map (λ m. assigned_register m.to) (effects_with row i.binding))

@@ -14,6 +14,13 @@ pub enum Bound {
     Label(Lab),
 }
 
+/// The number 0, which fills the inline places of a list that are not in use.
+impl Default for Bound {
+    fn default() -> Bound {
+        Bound::Num(0)
+    }
+}
+
 /// What stands in each hole of a row, at most eight of them. Contracts see the list.
 #[derive(Debug, Drop)]
 pub struct Binding {

@@ -1,5 +1,6 @@
 use Rattle.std.proofs.Common.{◌≡◌, ◌++◌, drop, filter_map}
-use Rattle.md_rows.specs.Instances.{no_names, piece_token, tokens_with}
+use Rattle.md_rows.specs.Instances.{no_names, piece_token}
+use Rattle.first_path.specs.Tokens.{tokens_with}
 use Rattle.first_path.specs.declared.assembly.Before.TheVariants.{Start}
 use Rattle.first_path.specs.Compiled.{binding_of}
 use Rattle.first_path.specs.Spacing.{line_from}

@@ -11,6 +11,8 @@ mod parser;
 pub use parser::parse;
 
 #[cfg(test)]
+mod long_sources;
+#[cfg(test)]
 mod printed;
 #[cfg(test)]
 mod tests;

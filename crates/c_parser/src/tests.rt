@@ -8,8 +8,11 @@ use std::alloc::{AllocError, Global};
 use std::test::Fail;
 use vp_io::Reason;
 
-fn tree_of(alloc: Global, source: &[u8]) -> Result<Syntax, CFault> {
-    if source.len() > 10_000 {
+/// The longest source, in bytes.
+pub(crate) const LONGEST: usize = 1_048_576;
+
+pub(crate) fn tree_of(alloc: Global, source: &[u8]) -> Result<Syntax, CFault> {
+    if source.len() > LONGEST {
         return Err(CFault::NoMemory);
     }
     let tokens = lex(alloc, source)?;

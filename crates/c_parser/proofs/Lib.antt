@@ -19,4 +19,4 @@ mod StatSim
 mod Nestings
 mod Refusals
 mod Parsed
-mod Lexed
+pub mod Lexed

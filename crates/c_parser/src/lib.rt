@@ -11,8 +11,6 @@ mod parser;
 pub use parser::parse;
 
 #[cfg(test)]
-mod long_sources;
-#[cfg(test)]
 mod printed;
 #[cfg(test)]
 mod tests;

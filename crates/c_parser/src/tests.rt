@@ -8,11 +8,8 @@ use std::alloc::{AllocError, Global};
 use std::test::Fail;
 use vp_io::Reason;
 
-/// The longest source, in bytes.
-pub(crate) const LONGEST: usize = 1_048_576;
-
-pub(crate) fn tree_of(alloc: Global, source: &[u8]) -> Result<Syntax, CFault> {
-    if source.len() > LONGEST {
+fn tree_of(alloc: Global, source: &[u8]) -> Result<Syntax, CFault> {
+    if source.len() > 10_000 {
         return Err(CFault::NoMemory);
     }
     let tokens = lex(alloc, source)?;

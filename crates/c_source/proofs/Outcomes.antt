@@ -1,5 +1,5 @@
 -- A text has at most one tree or reason.
-use Rattle.std.proofs.Common.{◌≡◌, ℕ, List, Result, Ok, Err, refl, sym, ap, subst, ◌∙◌}
+use Rattle.std.proofs.Common.{◌≡◌, ℕ, List, Result, Ok, Err, IfErr, ap, subst}
 use Rattle.vp_io.specs.declared.answers.Reason.{Reason}
 use Rattle.c_tree.specs.declared.fault.CFault.{CFault}
 use Rattle.c_tree.specs.declared.fault.CFault.TheVariants.{NoMemory, Bad}
@@ -57,11 +57,11 @@ module _ (lexed : lexer.OneOutcome) (unique : Unique) (one : OneRefusal) (never_
   one_outcome text (Err r) (Ok t) a b = absurd (not_both text t r b a)
   one_outcome text (Err r) (Err s) a b = ap (λ v. Err v) (same_refusal text r s a b)
 
--- what the lexer's and the parser's refusals are of the text
-pub of_lexer : (text : List ℕ) (fault : CFault) → lexer.Refuses text fault → Refuses text fault
-of_lexer text NoMemory r = tt
-of_lexer text (Bad reason) r = no_tokens r
-
-pub of_parser : (text : List ℕ) (tokens : List Token) (fault : CFault) → AreTokens text tokens → parser.Refuses (lexemes tokens) fault → Refuses text fault
+-- the parser's refusal is one of the text
+of_parser : (text : List ℕ) (tokens : List Token) (fault : CFault) → AreTokens text tokens → parser.Refuses (lexemes tokens) fault → Refuses text fault
 of_parser text tokens NoMemory l r = tt
 of_parser text tokens (Bad reason) l r = no_tree tokens l r
+
+pub refused_by_parser : (text : List ℕ) (tokens : List Token) (answer : Result Syntax CFault) → AreTokens text tokens → IfErr answer (parser.Refuses (lexemes tokens)) → IfErr answer (Refuses text)
+refused_by_parser text tokens (Ok tree) l r = tt
+refused_by_parser text tokens (Err fault) l r = of_parser text tokens fault l r

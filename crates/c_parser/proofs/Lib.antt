@@ -16,5 +16,7 @@ mod Whole
 mod Sim
 mod DeclSim
 mod StatSim
+mod Nestings
+mod Refusals
 mod Parsed
-mod Lexed
+pub mod Lexed

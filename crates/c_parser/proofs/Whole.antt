@@ -291,7 +291,7 @@ ran_step ts us xs s t un e l r more = onward (step s t) refl
     onward None is = record { taken = xs; back = t ∷ ts; split = e; left = refl; low = l; state = s; reaches = r; stops = is; unended = un }
     onward (Some x) is = deep x.0 x.1 is (shallow x.0) refl
 
-ending : (s : State) → ((ps : List External) × (s ≡ m.finished ps)) ⊎ (at_end s ≡ Err (Wrong 0))
+pub ending : (s : State) → ((ps : List External) × (s ≡ m.finished ps)) ⊎ (at_end s ≡ Err (Wrong 0))
 ending (m.operand fs u) = inr refl
 ending (m.have e fs u) = inr refl
 ending (m.named at f fs u) = inr refl
@@ -376,11 +376,11 @@ place_or : Option At → At
 place_or None = record { line = 1; column = 1 }
 place_or (Some at) = at
 
-made : List Leaf → List Lexeme
+pub made : List Leaf → List Lexeme
 made [] = []
 made (l ∷ ls) = lex l.word (place_or l.at) ∷ made ls
 
-made_spells : (ls : List Leaf) → Spells (made ls) ls
+pub made_spells : (ls : List Leaf) → Spells (made ls) ls
 unfolding made place_or
 made_spells [] = tt
 made_spells (l ∷ ls) = (refl, stands l.at, made_spells ls)
@@ -389,7 +389,7 @@ made_spells (l ∷ ls) = (refl, stands l.at, made_spells ls)
     stands None = tt
     stands (Some at) = refl
 
-spells_append : (ts us : List Lexeme) (ls ks : List Leaf) → Spells ts ls → Spells us ks → Spells (ts ++ us) (ls ++ ks)
+pub spells_append : (ts us : List Lexeme) (ls ks : List Leaf) → Spells ts ls → Spells us ks → Spells (ts ++ us) (ls ++ ks)
 spells_append [] us [] ks s r = r
 spells_append [] us (l ∷ ls) ks s r = absurd s
 spells_append (t ∷ ts) us [] ks s r = absurd s

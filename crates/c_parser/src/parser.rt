@@ -40,6 +40,7 @@ pub fn parse(alloc: Global, tokens: &Vec<Token>) -> Result<Syntax, CFault>
         Ok(parts) => Ok(Syntax { parts }),
         Err(Fault::Wrong(left)) => Err(CFault::Bad(reason(tokens, left, 5))),
         Err(Fault::Deep(left)) => Err(CFault::Bad(reason(tokens, left, 6))),
-        Err(Fault::NoMemory | Fault::Out) => Err(CFault::NoMemory),
+        Err(Fault::NoMemory) => Err(CFault::NoMemory),
+        Err(Fault::Out) => unreachable!(),
     }
 }

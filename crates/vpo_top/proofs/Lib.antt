@@ -1,2 +1,3 @@
 mod Reports
 mod Outcomes
+mod Requests

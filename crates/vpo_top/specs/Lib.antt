@@ -2,3 +2,5 @@ pub mod Request
 pub mod Messages
 pub mod Headline
 pub mod Judgement
+pub mod Commands
+pub mod Clauses

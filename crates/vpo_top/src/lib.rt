@@ -1,12 +1,23 @@
 //! The whole of what the program does, between the words of the command line and the bytes that are written.
 //!
-//! `vpo` is the top call: it reads the words, fetches the two files, and writes the text that is compiled from them, or says on the
-//! error stream why it can't. Its contract judges each outcome, and its headline is that what is written does on the described
-//! machine what the source does.
+//! `vpo` is the top call. It reads the words, and does what they ask for, or says on the error stream why it can't. Its contract judges
+//! each outcome.
+//!
+//! - `compiling`: `cc` fetches a description and a source, and writes the text that is compiled from them. The headline is that this
+//!   text does on the described machine what the source does.
+//! - `checking`: `check` fetches a description, and writes that it is accepted, with its name, word size and number of rows.
+//! - `showing`: `show` writes a description that comes with the program.
+//!
+//! `cc` accepts descriptions of the first form, of which `tiny.vpo` is one; by the general rules of `check` that one is refused, by
+//! rule 9, since it names no stack register.
 #![tactic(auto)]
 
+mod checking;
+mod compiling;
+mod fetching;
 pub mod report;
 mod request;
+mod showing;
 #[cfg(test)]
 mod tests;
 mod top;

@@ -1,5 +1,8 @@
 //! The top call over objects in memory.
 
+mod checking;
+mod showing;
+
 use super::vpo;
 use std::alloc::{AllocError, Global};
 use std::test::Fail;
@@ -68,6 +71,17 @@ fn run(
     })
 }
 
+/// What the words do where there are no files.
+fn run_alone(alloc: Global, words: &[&str]) -> Result<Seen, AllocError> {
+    run(
+        alloc,
+        words,
+        Vec::new(alloc),
+        sink(alloc, 65536)?,
+        sink(alloc, 256)?,
+    )
+}
+
 fn compile(alloc: Global, description: &[u8], source: &[u8]) -> Result<Seen, AllocError> {
     let mut files = Vec::new(alloc);
     files.push(file(alloc, "d", description, false)?)?;
@@ -123,7 +137,7 @@ fn a_description_is_refused_before_the_source(rt: HostRuntime) -> Result<(), Fai
 #[test]
 fn words_are_refused(rt: HostRuntime) -> Result<(), Fail> {
     let alloc = rt.alloc();
-    let rows: [&[&str]; 9] = [
+    let rows: [&[&str]; 17] = [
         &[],
         &["cc"],
         &["cc", "d"],
@@ -133,15 +147,17 @@ fn words_are_refused(rt: HostRuntime) -> Result<(), Fail> {
         &["cc", "-d", "s"],
         &["cc", "d", "-"],
         &["run", "d", "s"],
+        &["check"],
+        &["check", ""],
+        &["check", "-x"],
+        &["check", "a", "b"],
+        &["show"],
+        &["show", "vax"],
+        &["show", "pdp11", "x"],
+        &["cc", "pdp11"],
     ];
     for words in rows {
-        let seen = run(
-            alloc,
-            words,
-            Vec::new(alloc),
-            sink(alloc, 16)?,
-            sink(alloc, 256)?,
-        )?;
+        let seen = run_alone(alloc, words)?;
         assert_eq!(rt; seen.outcome, Outcome::BadWords);
         assert_eq!(rt; seen.outcome.code(), 64);
         assert_eq!(rt; seen.output.bytes(), b"".as_slice());

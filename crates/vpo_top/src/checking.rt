@@ -1,0 +1,70 @@
+//! `check`: whether a description is accepted.
+
+ghost use Rattle.std.specs.Prelude.{◌≡◌, ◌≤◌, length, IfOk, IfErr, IsErrOf};
+ghost use Rattle.vp_io.specs.Files.{OfFile, CountsOnly, RoseBy};
+ghost use Rattle.vpo_top.specs.Judgement.{byte_limit, IsRefusal};
+ghost use Rattle.vpo_top.specs.Commands.{IsVerdictOn, IsVerdictWritten, JudgesCheck, IsOfCheck, IsRefusalOfCheck, HasCheckCause};
+
+use crate::fetching::fetch;
+use md_fault::MdFault;
+use md_verdict::{accept, verdict_line};
+use std::alloc::Global;
+use vp_io::{Files, Outcome, Sink, Which, write_whole};
+
+/// Writes of the description in a file that it is accepted.
+pub fn check_to<F: Files, K: Sink>(
+    alloc: Global,
+    files: &mut F,
+    description: &str,
+    output: &mut K,
+) -> Outcome
+    ensures checked { OfFile (F.files files.old) description.now (λ text. IsVerdictWritten text (K.written output.old) (K.written output.new) result) }
+    ensures judged { OfFile (F.files files.old) description.now (λ text. JudgesCheck text result) }
+    ensures possible { IsOfCheck result }
+    ensures cause { HasCheckCause (F.files files.old) description.now (F.faults files.old) (F.faults files.new) (K.faults output.old) (K.faults output.new) result }
+    ensures fetched { CountsOnly description.now (F.faults files.old) (F.faults files.new) }
+    ensures files_kept { F.files files.new ≡ F.files files.old }
+    ensures untouched { IsRefusal result → output.new ≡ output.old }
+{
+    let line = match check(alloc, files, description) {
+        Ok(line) => line,
+        Err(outcome) => return outcome,
+    };
+    match write_whole(output, &line) {
+        Ok(()) => Outcome::Done(0),
+        Err(_) => Outcome::WriteFault,
+    }
+}
+
+/// The line that is written of the description in a file, or why there is none.
+fn check<F: Files>(alloc: Global, files: &mut F, description: &str) -> Result<Vec<u8>, Outcome>
+    ensures short { OfFile (F.files files.old) description.now (λ text. IfOk result (λ line. length text ≤ byte_limit)) }
+    ensures verdict { OfFile (F.files files.old) description.now (λ text. IfOk result (λ line. IsVerdictOn text line.items)) }
+    ensures judged { OfFile (F.files files.old) description.now (λ text. IfErr result (λ outcome. JudgesCheck text outcome)) }
+    ensures possible { IfErr result (λ outcome. IsRefusalOfCheck outcome) }
+    ensures cause { IsErrOf result (Outcome.ReadFault Which.Description) → RoseBy (F.files files.old) description.now (F.faults files.old) (F.faults files.new) }
+    ensures fetched { CountsOnly description.now (F.faults files.old) (F.faults files.new) }
+    ensures files_kept { F.files files.new ≡ F.files files.old }
+{
+    let text = fetch(alloc, files, description, Which::Description)?;
+    verdict(alloc, &text)
+}
+
+/// The line that is written of a description, or why there is none.
+fn verdict(alloc: Global, text: &[u8]) -> Result<Vec<u8>, Outcome>
+    requires { length text.now ≤ byte_limit }
+    ensures verdict { IfOk result (λ line. IsVerdictOn text.now line.items) }
+    ensures judged { IfErr result (λ outcome. JudgesCheck text.now outcome) }
+    ensures possible { IfErr result (λ outcome. IsRefusalOfCheck outcome) }
+    ensures no_fault { (which : Which) → IsErrOf result (Outcome.ReadFault which) → ⊥ }
+{
+    let accepted = match accept(alloc, text) {
+        Ok(accepted) => accepted,
+        Err(MdFault::NoMemory) => return Err(Outcome::NoMemory),
+        Err(MdFault::Bad(reason)) => return Err(Outcome::BadDescription(reason)),
+    };
+    match verdict_line(alloc, accepted.raw()) {
+        Ok(line) => Ok(line),
+        Err(_) => Err(Outcome::NoMemory),
+    }
+}

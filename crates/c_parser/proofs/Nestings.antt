@@ -51,7 +51,7 @@ follow_on : (ts : List Lexeme) (xs : Taken) (s : State) (t : Lexeme) (ps : List 
 follow_on ts xs s t ps r (inr un) e more = one_on ts xs s t ps r un e more
 follow_on ts xs s t ps r (inl f) e more =
     subst (λ z. Followed xs (t ∷ ts) z ps) (sym f.1)
-      (at_the_end xs (t ∷ ts) f.0 ps (subst (λ z. Reaches xs z) f.1 r) refl (let h : run all (t ∷ ts) (m.finished f.0) ≡ okay ps = subst (λ z. run all (t ∷ ts) z ≡ okay ps) f.1 e in h))
+    (at_the_end xs (t ∷ ts) f.0 ps (subst (λ z. Reaches xs z) f.1 r) refl (let h : run all (t ∷ ts) (m.finished f.0) ≡ okay ps = subst (λ z. run all (t ∷ ts) z ≡ okay ps) f.1 e in h))
 
 follow_nothing : (xs : Taken) (s : State) (ps : List External) → Reaches xs s → ((qs : List External) × (s ≡ m.finished qs)) ⊎ (at_end s ≡ Err (Wrong 0)) → at_end s ≡ okay ps → Followed xs [] s ps
 follow_nothing xs s ps r (inr un) e = absurd (apart (sym un ∙ e))
@@ -60,7 +60,7 @@ follow_nothing xs s ps r (inr un) e = absurd (apart (sym un ∙ e))
     apart h = absurd cc
 follow_nothing xs s ps r (inl f) e =
     subst (λ z. Followed xs [] z ps) (sym f.1)
-      (at_the_end xs [] f.0 ps (subst (λ z. Reaches xs z) f.1 r) refl (let h : at_end (m.finished f.0) ≡ okay ps = subst (λ z. at_end z ≡ okay ps) f.1 e in h))
+    (at_the_end xs [] f.0 ps (subst (λ z. Reaches xs z) f.1 r) refl (let h : at_end (m.finished f.0) ≡ okay ps = subst (λ z. at_end z ≡ okay ps) f.1 e in h))
 
 follow : (ts : List Lexeme) (xs : Taken) (s : State) (ps : List External) → Reaches xs s → run all ts s ≡ okay ps → Followed xs ts s ps
 follow [] xs s ps r e = follow_nothing xs s ps r (ending s) e

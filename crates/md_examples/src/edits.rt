@@ -7,7 +7,13 @@ use std::alloc::Global;
 pub type Edit = (usize, usize, &'static [u8], u32, u32);
 
 /// The text with lines replaced; lines are counted from 1, and `first` may be the one behind the last.
-pub fn edited(alloc: Global, text: &[u8], first: usize, count: usize, new: &[u8]) -> Result<Vec<u8>, NoMemory> {
+pub fn edited(
+    alloc: Global,
+    text: &[u8],
+    first: usize,
+    count: usize,
+    new: &[u8],
+) -> Result<Vec<u8>, NoMemory> {
     let mut made = Vec::new(alloc);
     let mut number = 1usize;
     for line in text.split_inclusive(|byte| *byte == b'\n') {

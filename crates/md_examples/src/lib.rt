@@ -6,20 +6,19 @@
 //! - `verdict`: what is told of a text.
 #![tactic(auto)]
 
-mod edits;
-pub mod machines;
-mod verdict;
-
 #[cfg(test)]
 mod duo_lines;
 #[cfg(test)]
 mod duo_rows;
 #[cfg(test)]
 mod duo_shapes;
+mod edits;
+pub mod machines;
 #[cfg(test)]
 mod tests;
 #[cfg(test)]
 mod tri_edits;
+mod verdict;
 
 pub use edits::{Edit, edited};
 pub use verdict::{Verdict, verdict_of};

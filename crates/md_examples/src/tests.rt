@@ -1,13 +1,16 @@
 //! What is accepted and what is refused, as worked out by hand.
 
-use crate::duo_lines::{bytes, forms, headings, names_again, ranges, reserved_names, uses, versions};
+use crate::duo_lines::{
+    bytes, forms, headings, names_again, ranges, reserved_names, uses, versions,
+};
 use crate::duo_rows::{counts, holes, modes, overlaps, registers, roles, sizes, transfers};
 use crate::duo_shapes::shapes;
 use crate::machines::{duo, tri};
 use crate::tri_edits::{ranges as tri_ranges, shapes as tri_shapes};
 use crate::{Edit, Verdict, edited, verdict_of};
 use rtl_tree::NoMemory;
-use shipped::{Shipped, Shipped::Mips, Shipped::Pdp11};
+use shipped::Shipped;
+use shipped::Shipped::{Mips, Pdp11};
 use std::alloc::Global;
 use std::test::Fail;
 use vp_io::Reason;
@@ -21,8 +24,19 @@ fn is_accepted(alloc: Global, text: &[u8], line: &[u8]) -> Result<bool, NoMemory
 }
 
 // Whether the text is refused for this reason.
-fn is_refused(alloc: Global, text: &[u8], line: u32, rule: u8, detail: u32) -> Result<bool, NoMemory> {
-    let reason = Reason { line, column: 1, rule, detail };
+fn is_refused(
+    alloc: Global,
+    text: &[u8],
+    line: u32,
+    rule: u8,
+    detail: u32,
+) -> Result<bool, NoMemory> {
+    let reason = Reason {
+        line,
+        column: 1,
+        rule,
+        detail,
+    };
     match verdict_of(alloc, text)? {
         Verdict::Refused(told) => Ok(told == reason),
         _ => Ok(false),
@@ -45,7 +59,13 @@ fn the_pdp11_with_another_row(rt: HostRuntime) -> Result<(), Fail> {
     let sob = b"row sob <d:r>,<l:label> | <d> = (<d> + -1); PC = (((<d> + -1) ne 0) -> <l>)\n";
     let counted = edited(alloc, Pdp11.text(), 71, 0, sob)?;
     assert!(rt; is_accepted(alloc, &counted, b"accepted pdp11 word 16 rows 207\n")?);
-    let again = edited(alloc, Pdp11.text(), 71, 0, b"row mov #<n:0..3>,<d:r> | <d> = <n>\n")?;
+    let again = edited(
+        alloc,
+        Pdp11.text(),
+        71,
+        0,
+        b"row mov #<n:0..3>,<d:r> | <d> = <n>\n",
+    )?;
     assert!(rt; is_refused(alloc, &again, 71, 15, 45)?);
     Ok(())
 }
@@ -64,7 +84,12 @@ fn the_pdp11_with_less(rt: HostRuntime) -> Result<(), Fail> {
 }
 
 // The first of these edits of a machine that isn't told by its rule, at its line and with its detail.
-fn first_untold(alloc: Global, machine: &[u8], rule: u8, edits: &[Edit]) -> Result<Option<Edit>, NoMemory> {
+fn first_untold(
+    alloc: Global,
+    machine: &[u8],
+    rule: u8,
+    edits: &[Edit],
+) -> Result<Option<Edit>, NoMemory> {
     for (first, count, new, line, detail) in edits {
         let text = edited(alloc, machine, *first, *count, new)?;
         if !is_refused(alloc, &text, *line, rule, *detail)? {
@@ -118,7 +143,10 @@ fn uses_of_the_duo_are_told(rt: HostRuntime) -> Result<(), Fail> {
 
 #[test]
 fn reserved_names_of_the_duo_are_told(rt: HostRuntime) -> Result<(), Fail> {
-    assert_eq!(rt; first_untold(rt.alloc(), duo(), 8, &reserved_names())?, None);
+    assert_eq!(rt;
+        first_untold(rt.alloc(), duo(), 8, &reserved_names())?,
+        None
+    );
     Ok(())
 }
 

@@ -29,8 +29,26 @@ pub fn shapes() -> [Edit; 16] {
         (44, 1, b"".as_slice(), 51, 20),
         (45, 1, b"".as_slice(), 51, 20),
         (46, 1, b"".as_slice(), 51, 20),
-        (16, 10, b"class g v0 t0 t1 t2 t3 sp ra\nclass o v0 t0 t1 t2 t3 sp\nmode at | @<x:g> | <x>\nmode at | @<x:g>+<k:0..65535> | (<x> + <k>)\n\nrow copy <d:g> <x:g> | <d> = <x>\nrow swap <d:g> <x:g> | <d> = <x>; <x> = <d>\nrow set <d:g> <n:word> | <d> = <n>\nrow set <d:g> <y:sym> | <d> = <y>\nrow get <d:g> <a:at> | <d> = M[<a>]\nrow put <x:o> <a:at> | M[<a>] = <x>\n".as_slice(), 53, 23),
-        (16, 9, b"class g v0 t0 t1 t2 t3 sp ra\nclass o v0 t0 t1 t2 t3 sp\nmode at | @<x:g> | <x>\nmode at | @<x:g>+<k:0..65535> | (<x> + <k>)\n\nrow copy <d:g> <x:g> | <d> = <x>\nrow swap <d:g> <x:g> | <d> = <x>; <x> = <d>\nrow set <d:g> <n:word> | <d> = <n>\nrow set <d:g> <y:sym> | <d> = <y>\nrow get <d:o> <a:at> | <d> = M[<a>]\n".as_slice(), 53, 24),
-        (22, 1, b"row set <d:g> <n:-2147483648..2147483646> | <d> = <n>\n".as_slice(), 52, 2),
+        (
+            16,
+            10,
+            b"class g v0 t0 t1 t2 t3 sp ra\nclass o v0 t0 t1 t2 t3 sp\nmode at | @<x:g> | <x>\nmode at | @<x:g>+<k:0..65535> | (<x> + <k>)\n\nrow copy <d:g> <x:g> | <d> = <x>\nrow swap <d:g> <x:g> | <d> = <x>; <x> = <d>\nrow set <d:g> <n:word> | <d> = <n>\nrow set <d:g> <y:sym> | <d> = <y>\nrow get <d:g> <a:at> | <d> = M[<a>]\nrow put <x:o> <a:at> | M[<a>] = <x>\n".as_slice(),
+            53,
+            23,
+        ),
+        (
+            16,
+            9,
+            b"class g v0 t0 t1 t2 t3 sp ra\nclass o v0 t0 t1 t2 t3 sp\nmode at | @<x:g> | <x>\nmode at | @<x:g>+<k:0..65535> | (<x> + <k>)\n\nrow copy <d:g> <x:g> | <d> = <x>\nrow swap <d:g> <x:g> | <d> = <x>; <x> = <d>\nrow set <d:g> <n:word> | <d> = <n>\nrow set <d:g> <y:sym> | <d> = <y>\nrow get <d:o> <a:at> | <d> = M[<a>]\n".as_slice(),
+            53,
+            24,
+        ),
+        (
+            22,
+            1,
+            b"row set <d:g> <n:-2147483648..2147483646> | <d> = <n>\n".as_slice(),
+            52,
+            2,
+        ),
     ]
 }

@@ -10,8 +10,6 @@
 #![tactic(auto)]
 
 mod described;
-#[cfg(test)]
-mod edits;
 mod names;
 mod numbers;
 mod reader;
@@ -19,8 +17,6 @@ mod refused;
 mod rows;
 #[cfg(test)]
 mod tests;
-#[cfg(test)]
-mod texts;
 mod told;
 
 pub use reader::read_description;

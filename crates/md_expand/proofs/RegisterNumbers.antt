@@ -1,7 +1,7 @@
 -- Registers whose numbers are in range fit in 64 bits.
 use Rattle.std.proofs.Common.{◌≡◌, ℕ, ◌<◌, ℤ, pos, negsuc, false, not, List, [], ◌∷◌, ◌++◌, refl, sym, ◌∙◌, arith, append_assoc}
 use Rattle.std.proofs.lemmas.Bool.Decides.{nat_tests}
-use Rattle.md_text.specs.Forms.{Form, Version, MachineName, WordBits, MemorySize, DataBegin, StackSize, RegisterLine, FlagLine, ClassLine, ModeLine, RowLine}
+use Rattle.md_text.specs.Forms.{Form, RegisterLine}
 use Rattle.md_text.specs.Declarations.{Declaration, number_of}
 use Rattle.md_text.specs.Heading.{is_from_to, is_out_of_range}
 use Rattle.md_text.specs.Accepted.{HasBroken}

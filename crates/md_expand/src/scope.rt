@@ -19,7 +19,8 @@ pub struct Scope<'a> {
     pub all: &'a [Declaration],
     bits: HashMap<&'a [u8], u64>,
     ghost has_size: { IsTrue (is_size width) },
-    ghost has_bits: { (name : List ℕ) → unwrap_or (bits_at bits name) 0 ≡ class_bits (declarations_of all.now) name },
+    ghost has_bits: { (name : List ℕ)
+        → unwrap_or (bits_at bits name) 0 ≡ class_bits (declarations_of all.now) name },
 }
 
 fn bit(number: u64) -> u64
@@ -67,7 +68,8 @@ fn with_bits<'a>(
     name: &'a [u8],
     of_class: u64,
 ) -> Result<HashMap<&'a [u8], u64>, NoMemory>
-    ensures { IfOk result (λ more. (other : List ℕ) → bits_at more other ≡ cond (bytes_eq name.now other) (Some of_class) (bits_at bits.entry other)) }
+    ensures { IfOk result (λ more. (other : List ℕ) → bits_at more other
+        ≡ cond (bytes_eq name.now other) (Some of_class) (bits_at bits.entry other)) }
 {
     bits.insert(name, of_class)?;
     Ok(bits)
@@ -80,7 +82,8 @@ fn with_class<'a>(
     form: &'a Form,
 ) -> Result<HashMap<&'a [u8], u64>, NoMemory>
     requires { FitIn64 (declarations_of all.now) }
-    ensures { IfOk result (λ more. (name : List ℕ) → bits_at more name ≡ bits_among (registers_in (declarations_of all.now)) (form_of form.now) (bits_at bits.entry) name) }
+    ensures { IfOk result (λ more. (name : List ℕ) → bits_at more name
+        ≡ bits_among (registers_in (declarations_of all.now)) (form_of form.now) (bits_at bits.entry) name) }
 {
     match form {
         Form::ClassLine { name, registers } => with_bits(

@@ -36,7 +36,8 @@ fn has_deep_tree(transfer: &Option<Vec<Filled>>) -> bool
 }
 
 fn is_large(row: &Expanded) -> bool
-    ensures { result ≡ (nat_lt 8 (length (holes_in (all_shown row.now.text.items))) || deep_within row.now.transfer) }
+    ensures { result ≡ (nat_lt 8 (length (holes_in (all_shown row.now.text.items)))
+        || deep_within row.now.transfer) }
 {
     hole_count(&row.text) > MOST_HOLES || has_deep_tree(&row.transfer)
 }

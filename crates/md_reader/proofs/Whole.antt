@@ -7,7 +7,7 @@ use Rattle.vp_io.specs.declared.answers.Reason.{Reason}
 use Rattle.md_rows.specs.declared.description.RawDescription.{RawDescription}
 use Rattle.md_fault.specs.declared.MdFault.TheVariants.{Bad}
 use Rattle.md_text.specs.Declarations.{Declared, Declares}
-use Rattle.md_text.specs.Accepted.{Rule, BadByte, OtherVersion, NoForm, BadHeading, OutOfRange, DeclaredTwice, NotDeclared, ReservedName, WrongRoles, BadTransfer, MisusedHole, ModeInMode, TooLarge, TooMany, number_of, Breaks, DeclaresBad, Told, IsAccepted}
+use Rattle.md_text.specs.Accepted.{Rule, BadByte, OtherVersion, NoForm, number_of, Breaks, DeclaresBad, Told, IsAccepted}
 use Rattle.md_text.proofs.Declaring.{declared_once}
 use Rattle.md_forms.specs.declared.rules.Told.{Told as Broken}
 use Rattle.md_forms.specs.SeenRules.{rule_of}

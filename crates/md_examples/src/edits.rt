@@ -4,7 +4,7 @@ use rtl_tree::NoMemory;
 use std::alloc::Global;
 
 /// The first line, how many are replaced, what stands there then, the line at which a rule is told, and the detail.
-pub type Edit = (usize, usize, &'static [u8], u32, u32);
+pub type Edit = (usize, usize, &'static str, u32, u32);
 
 /// The text with lines replaced; lines are counted from 1, and `first` may be the one behind the last.
 pub fn edited(

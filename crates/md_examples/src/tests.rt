@@ -1,12 +1,10 @@
 //! What is accepted and what is refused, as worked out by hand.
 
-use crate::duo_lines::{
-    bytes, forms, headings, names_again, ranges, reserved_names, uses, versions,
-};
-use crate::duo_rows::{counts, holes, modes, overlaps, registers, roles, sizes, transfers};
-use crate::duo_shapes::shapes;
+use crate::duo_lines::DUO_LINES;
+use crate::duo_rows::DUO_ROWS;
+use crate::duo_shapes::DUO_SHAPES;
 use crate::machines::{duo, tri};
-use crate::tri_edits::{ranges as tri_ranges, shapes as tri_shapes};
+use crate::tri_edits::TRI_EDITS;
 use crate::{Edit, Verdict, edited, verdict_of};
 use rtl_tree::NoMemory;
 use shipped::Shipped;
@@ -91,7 +89,7 @@ fn first_untold(
     edits: &[Edit],
 ) -> Result<Option<Edit>, NoMemory> {
     for (first, count, new, line, detail) in edits {
-        let text = edited(alloc, machine, *first, *count, new)?;
+        let text = edited(alloc, machine, *first, *count, new.as_bytes())?;
         if !is_refused(alloc, &text, *line, rule, *detail)? {
             return Ok(Some((*first, *count, *new, *line, *detail)));
         }
@@ -100,118 +98,19 @@ fn first_untold(
 }
 
 #[test]
-fn bytes_of_the_duo_are_told(rt: HostRuntime) -> Result<(), Fail> {
-    assert_eq!(rt; first_untold(rt.alloc(), duo(), 1, &bytes())?, None);
-    Ok(())
-}
-
-#[test]
-fn versions_of_the_duo_are_told(rt: HostRuntime) -> Result<(), Fail> {
-    assert_eq!(rt; first_untold(rt.alloc(), duo(), 2, &versions())?, None);
-    Ok(())
-}
-
-#[test]
-fn forms_of_the_duo_are_told(rt: HostRuntime) -> Result<(), Fail> {
-    assert_eq!(rt; first_untold(rt.alloc(), duo(), 3, &forms())?, None);
-    Ok(())
-}
-
-#[test]
-fn headings_of_the_duo_are_told(rt: HostRuntime) -> Result<(), Fail> {
-    assert_eq!(rt; first_untold(rt.alloc(), duo(), 4, &headings())?, None);
-    Ok(())
-}
-
-#[test]
-fn ranges_of_the_duo_are_told(rt: HostRuntime) -> Result<(), Fail> {
-    assert_eq!(rt; first_untold(rt.alloc(), duo(), 5, &ranges())?, None);
-    Ok(())
-}
-
-#[test]
-fn names_again_of_the_duo_are_told(rt: HostRuntime) -> Result<(), Fail> {
-    assert_eq!(rt; first_untold(rt.alloc(), duo(), 6, &names_again())?, None);
-    Ok(())
-}
-
-#[test]
-fn uses_of_the_duo_are_told(rt: HostRuntime) -> Result<(), Fail> {
-    assert_eq!(rt; first_untold(rt.alloc(), duo(), 7, &uses())?, None);
-    Ok(())
-}
-
-#[test]
-fn reserved_names_of_the_duo_are_told(rt: HostRuntime) -> Result<(), Fail> {
-    assert_eq!(rt;
-        first_untold(rt.alloc(), duo(), 8, &reserved_names())?,
-        None
-    );
-    Ok(())
-}
-
-#[test]
-fn roles_of_the_duo_are_told(rt: HostRuntime) -> Result<(), Fail> {
-    assert_eq!(rt; first_untold(rt.alloc(), duo(), 9, &roles())?, None);
-    Ok(())
-}
-
-#[test]
-fn transfers_of_the_duo_are_told(rt: HostRuntime) -> Result<(), Fail> {
-    assert_eq!(rt; first_untold(rt.alloc(), duo(), 10, &transfers())?, None);
-    Ok(())
-}
-
-#[test]
-fn holes_of_the_duo_are_told(rt: HostRuntime) -> Result<(), Fail> {
-    assert_eq!(rt; first_untold(rt.alloc(), duo(), 11, &holes())?, None);
-    Ok(())
-}
-
-#[test]
-fn modes_of_the_duo_are_told(rt: HostRuntime) -> Result<(), Fail> {
-    assert_eq!(rt; first_untold(rt.alloc(), duo(), 12, &modes())?, None);
-    Ok(())
-}
-
-#[test]
-fn sizes_of_the_duo_are_told(rt: HostRuntime) -> Result<(), Fail> {
-    assert_eq!(rt; first_untold(rt.alloc(), duo(), 13, &sizes())?, None);
-    Ok(())
-}
-
-#[test]
-fn counts_of_the_duo_are_told(rt: HostRuntime) -> Result<(), Fail> {
-    assert_eq!(rt; first_untold(rt.alloc(), duo(), 14, &counts())?, None);
-    Ok(())
-}
-
-#[test]
-fn overlaps_of_the_duo_are_told(rt: HostRuntime) -> Result<(), Fail> {
-    assert_eq!(rt; first_untold(rt.alloc(), duo(), 15, &overlaps())?, None);
-    Ok(())
-}
-
-#[test]
-fn registers_of_the_duo_are_told(rt: HostRuntime) -> Result<(), Fail> {
-    assert_eq!(rt; first_untold(rt.alloc(), duo(), 16, &registers())?, None);
-    Ok(())
-}
-
-#[test]
-fn shapes_of_the_duo_are_told(rt: HostRuntime) -> Result<(), Fail> {
-    assert_eq!(rt; first_untold(rt.alloc(), duo(), 17, &shapes())?, None);
-    Ok(())
-}
-
-#[test]
-fn ranges_of_the_tri_are_told(rt: HostRuntime) -> Result<(), Fail> {
-    assert_eq!(rt; first_untold(rt.alloc(), tri(), 5, &tri_ranges())?, None);
-    Ok(())
-}
-
-#[test]
-fn shapes_of_the_tri_are_told(rt: HostRuntime) -> Result<(), Fail> {
-    assert_eq!(rt; first_untold(rt.alloc(), tri(), 17, &tri_shapes())?, None);
+fn each_rule_is_told(rt: HostRuntime) -> Result<(), Fail> {
+    let alloc = rt.alloc();
+    for (rule, edits) in DUO_LINES {
+        assert_eq!(rt; first_untold(alloc, duo(), rule, edits)?, None);
+    }
+    for (rule, edits) in DUO_ROWS {
+        assert_eq!(rt; first_untold(alloc, duo(), rule, edits)?, None);
+    }
+    for (rule, edits) in DUO_SHAPES {
+        assert_eq!(rt; first_untold(alloc, duo(), rule, edits)?, None);
+    }
+    for (rule, edits) in TRI_EDITS {
+        assert_eq!(rt; first_untold(alloc, tri(), rule, edits)?, None);
+    }
     Ok(())
 }

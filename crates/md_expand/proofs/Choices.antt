@@ -9,7 +9,7 @@ use Rattle.md_text.specs.Expansion as text
 use Rattle.md_forms.specs.Seen.{pieces_of, declaration_of, declarations_of}
 use Rattle.md_forms.specs.declared.declarations.Declaration.{Declaration as Read}
 use Rattle.md_expand.specs.declared.expanded.Expanded.{Expanded}
-use Rattle.md_expand.specs.declared.fillings.Filling.{Filling}
+use Rattle.md_expand.specs.declared.modes.Filling.{Filling}
 use Rattle.md_expand.specs.declared.product.RowLine.{RowLine}
 use Rattle.md_expand.specs.Expanded.{IsExpanded, AllExpanded}
 use Rattle.md_expand.specs.Fillings.{filling_seen, all_seen, all_options}

@@ -1,4 +1,4 @@
-pub mod ClassBits
+pub mod NamedBits
 pub mod ModeFillings
 pub mod MeantTrees
 pub mod Outcomes

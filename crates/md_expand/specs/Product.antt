@@ -6,7 +6,7 @@ use Rattle.md_text.specs.Forms.{Form, RowLine as SaidRow}
 use Rattle.md_text.specs.Expansion.{Expanded as Row, expanded, expansions_of, choices}
 use Rattle.md_forms.specs.Seen.{pieces_of}
 use Rattle.md_expand.specs.declared.expanded.Expanded.{Expanded}
-use Rattle.md_expand.specs.declared.fillings.Filling.{Filling}
+use Rattle.md_expand.specs.declared.modes.Filling.{Filling}
 use Rattle.md_expand.specs.declared.product.RowLine.{RowLine}
 use Rattle.md_expand.specs.declared.scope.Scope.{Scope}
 use Rattle.md_expand.specs.Expanded.{AllExpanded}

@@ -7,7 +7,7 @@ use Rattle.md_text.specs.Declarations.{Declaration}
 use Rattle.md_text.specs.Expansion as text
 use Rattle.md_forms.specs.Seen.{pieces_of, declarations_of}
 use Rattle.md_forms.specs.declared.pieces.Piece.{Piece}
-use Rattle.md_expand.specs.declared.fillings.Filling.{Filling}
+use Rattle.md_expand.specs.declared.modes.Filling.{Filling}
 use Rattle.md_expand.specs.declared.scope.Scope.{Scope}
 use Rattle.md_expand.specs.Fillings.{filling_seen, all_seen, hole_total, all_options}
 

@@ -1,76 +1,18 @@
 //! What may stand in place of a hole.
 
-ghost use Rattle.std.specs.Prelude.{◌≡◌, ◌++◌, ◌∷◌, [], map, length, IfOk};
+ghost use Rattle.std.specs.Prelude.{◌≡◌, ◌∷◌, [], length, IfOk};
 ghost use Rattle.md_text.specs.Pieces.{slots, Named};
-ghost use Rattle.md_text.specs.Expansion.{alternatives_of, filling_of, fillings, holes_in};
-ghost use Rattle.md_forms.specs.Seen.{kind_of, pieces_of, form_of};
-ghost use Rattle.md_expand.specs.Fillings.{alternative_named};
+ghost use Rattle.md_text.specs.Expansion.{fillings, holes_in};
+ghost use Rattle.md_forms.specs.Seen.{kind_of, pieces_of};
 ghost use Rattle.md_expand.specs.Scope.{declared_in, filling_in, fillings_in};
 
-use crate::leaves::{Meaning, leaf};
+use crate::modes::Filling;
 use crate::scope::Scope;
 use crate::shown::taken_by;
-use md_forms::{Form, Kind, OpenTree, Piece};
+use md_forms::{Kind, Piece};
 use md_rows::Hole;
-use rtl_tree::{Expr, NoMemory};
-use sqlite_items::Items;
+use rtl_tree::NoMemory;
 use std::alloc::Global;
-
-/// What stands in place of a hole: a hole, or an alternative of a mode.
-#[derive(Clone, Copy)]
-pub enum Filling<'a> {
-    Itself(Hole),
-    Alternative {
-        text: &'a [Piece],
-        tree: &'a OpenTree,
-    },
-}
-
-/// Fillings, with the alternative of the mode of this name that a form gives.
-fn with_alternative<'a>(
-    mut found: Vec<Filling<'a>>,
-    scope: &Scope<'a>,
-    form: &'a Form,
-    name: &[u8],
-) -> Result<Vec<Filling<'a>>, NoMemory>
-    ensures { IfOk result (λ more. fillings_in scope.now more.items
-        ≡ fillings_in scope.now found.entry.items
-        ++ alternative_named scope.now.width (declared_in scope.now) name.now (form_of form.now)) }
-{
-    match form {
-        Form::ModeLine {
-            name: mode,
-            text,
-            tree,
-        } => {
-            if mode.as_slice() == name {
-                found.push(Filling::Alternative {
-                    text: text.as_slice(),
-                    tree,
-                })?;
-            }
-            Ok(found)
-        }
-        _ => Ok(found),
-    }
-}
-
-/// The alternatives of the mode of this name, in order.
-fn alternatives_of<'a>(
-    alloc: Global,
-    scope: &Scope<'a>,
-    name: &[u8],
-) -> Result<Vec<Filling<'a>>, NoMemory>
-    ensures { IfOk result (λ found. fillings_in scope.now found.items
-        ≡ map (filling_of scope.now.width (declared_in scope.now))
-        (alternatives_of (declared_in scope.now) name.now)) }
-{
-    let mut found = Vec::new(alloc);
-    for declaration in scope.all {
-        found = with_alternative(found, scope, &declaration.form, name)?;
-    }
-    Ok(found)
-}
 
 fn itself<'a>(alloc: Global, hole: Hole) -> Result<Vec<Filling<'a>>, NoMemory>
     ensures { IfOk result (λ found. found.items ≡ Filling.Itself hole ∷ []) }
@@ -88,12 +30,9 @@ fn named_fillings<'a>(
     ensures { IfOk result (λ found. fillings_in scope.now found.items
         ≡ fillings scope.now.width (declared_in scope.now) (Named name.now)) }
 {
-    let found = alternatives_of(alloc, scope, name)?;
-    let count = found.len();
-    if count == 0 {
-        itself(alloc, Hole::Reg(scope.bits_of(name)))
-    } else {
-        Ok(found)
+    match scope.alternatives_of(name) {
+        [] => itself(alloc, Hole::Reg(scope.bits_of(name))),
+        found => Ok(Vec::from_slice(alloc, found)?),
     }
 }
 

@@ -9,7 +9,8 @@ ghost use Rattle.md_expand.specs.Scope.{options_in, options_for};
 ghost use Rattle.md_expand.specs.Product.{rows_in, expansions_in, form_of_row, AddsRows};
 
 use crate::expanded::{Expanded, expand_row};
-use crate::fillings::{Filling, fillings};
+use crate::fillings::fillings;
+use crate::modes::Filling;
 use crate::scope::Scope;
 use md_forms::{Declaration, Form, OpenTransfer, Piece};
 use rtl_tree::NoMemory;

@@ -3,7 +3,7 @@ use Rattle.std.proofs.lemmas.List.{nil_from_length, take_all}
 use Rattle.rtl_tree.proofs.Pairs.{is_cons}
 use Rattle.md_text.specs.Expansion.{Expanded as Row, expanded}
 use Rattle.md_forms.specs.Seen.{pieces_of, declarations_of}
-use Rattle.md_expand.specs.declared.fillings.Filling.{Filling}
+use Rattle.md_expand.specs.declared.modes.Filling.{Filling}
 use Rattle.md_expand.specs.Expanded.{AllExpanded}
 use Rattle.md_expand.specs.Fillings.{all_seen}
 use Rattle.md_expand.specs.Product.{rows_of}

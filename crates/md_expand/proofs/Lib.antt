@@ -4,7 +4,6 @@ pub mod MeantTrees
 pub mod Outcomes
 pub mod FilledMoves
 pub mod RowHoles
-pub mod Options
 pub mod Choices
 pub mod OtherLines
 pub mod Counted

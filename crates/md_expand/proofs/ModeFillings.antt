@@ -1,17 +1,18 @@
 -- The fillings of a mode, from declaration to declaration.
-use Rattle.std.proofs.Common.{◌≡◌, ℕ, suc, ◌+◌, Bool, true, false, cond, List, [], ◌∷◌, ◌++◌, map, length, drop, get_or, refl, sym, ap, ◌∙◌, append_assoc, append-nil, ◌<◌, ◌≢◌}
+use Rattle.std.proofs.Common.{◌≡◌, ℕ, suc, ◌+◌, Bool, true, false, cond, List, [], ◌∷◌, ◌++◌, map, length, drop, get_or, refl, sym, ap, subst, ◌∙◌, append_assoc, append-nil, ◌<◌, ◌≢◌}
 use Rattle.std.specs.Bool.{Decides}
 use Rattle.std.specs.Borrow.{Bor}
 use Rattle.std.specs.Global.{Vec}
 use Rattle.std.specs.HashMap.{HashMap, get_by}
 use Rattle.std.specs.List.{filter}
 use Rattle.std.specs.Option.{option_map_or, unwrap_or}
+use Rattle.std.specs.Prelude.{IfSome}
 use Rattle.std.specs.Str.{bytes_eq}
 use Rattle.std.specs.declared.option.Option.{Option}
 use Rattle.std.specs.declared.option.Option.TheVariants.{Some, None}
 use Rattle.std.proofs.lemmas.List.{drop_more, map-append}
 use Rattle.std.proofs.lemmas.Slice.Eq.{bytes_eq-Decides}
-use Rattle.md_text.specs.Pieces.{Named, Piece, Literal, Hole, slots, has_name}
+use Rattle.md_text.specs.Pieces.{Kind, Named, Piece, Literal, Hole, slots, has_name}
 use Rattle.md_text.specs.Forms.{OpenTree, Form, Version, MachineName, WordBits, MemorySize, DataBegin, StackSize, RegisterLine, FlagLine, ClassLine, ModeLine, RowLine}
 use Rattle.md_text.specs.Declarations.{Declaration, Alternative as Said, alternatives_in, mode_names}
 use Rattle.md_text.specs.Expansion as text
@@ -90,17 +91,32 @@ pub fillings_named :
 fillings_named w ds name =
     by_mode (has_name (mode_names ds) name) (map (text.filling_of w ds) (text.alternatives_of ds name)) (text.itself (text.taken_by w ds (Named name)) ∷ []) (is_mode_by w ds name)
 
-pub from_none :
-    {A : Type 0} (f : A → text.Filling) (w : ℕ) (ds : List Declaration) (name : List ℕ) (found : List A) → length found ≡ 0
-    → map f found ≡ map (text.filling_of w ds) (text.alternatives_of ds name) → text.itself (text.taken_by w ds (Named name)) ∷ [] ≡ text.fillings w ds (Named name)
-from_none f w ds name [] e same = sym (fillings_named w ds name ∙ ap (λ fs. fillings_or fs (text.itself (text.taken_by w ds (Named name)) ∷ [])) (sym same))
-from_none f w ds name (x ∷ xs) e same = absurd (cc)
+offered_none :
+    (w : ℕ) (ds : List Declaration) (name : List ℕ) → [] ≡ map (text.filling_of w ds) (text.alternatives_of ds name)
+    → text.itself (text.taken_by w ds (Named name)) ∷ [] ≡ text.fillings w ds (Named name)
+offered_none w ds name same = sym (fillings_named w ds name ∙ ap (λ fs. fillings_or fs (text.itself (text.taken_by w ds (Named name)) ∷ [])) (sym same))
 
-pub from_some :
-    {A : Type 0} (f : A → text.Filling) (w : ℕ) (ds : List Declaration) (name : List ℕ) (found : List A) → length found ≢ 0
-    → map f found ≡ map (text.filling_of w ds) (text.alternatives_of ds name) → map f found ≡ text.fillings w ds (Named name)
-from_some f w ds name [] e same = absurd (e refl)
-from_some f w ds name (x ∷ xs) e same = sym (fillings_named w ds name ∙ ap (λ fs. fillings_or fs (text.itself (text.taken_by w ds (Named name)) ∷ [])) (sym same))
+offered_some :
+    (w : ℕ) (ds : List Declaration) (name : List ℕ) (found : List Filling) → found ≢ []
+    → all_seen w ds found ≡ map (text.filling_of w ds) (text.alternatives_of ds name) → all_seen w ds found ≡ text.fillings w ds (Named name)
+offered_some w ds name [] some same = absurd (some refl)
+offered_some w ds name (x ∷ xs) some same = sym (fillings_named w ds name ∙ ap (λ fs. fillings_or fs (text.itself (text.taken_by w ds (Named name)) ∷ [])) (sym same))
+
+-- what may stand in place of a hole whose kind is a name, where the alternatives of this name are known
+pub offered :
+    (w : ℕ) (ds : List Declaration) (kind : Kind) (name : List ℕ) (found : Option (Bor (List Filling)))
+    → kind ≡ Named name → IfSome found (λ f. f.now ≢ [])
+    → all_seen w ds (option_map_or (λ f. f.now) found []) ≡ map (text.filling_of w ds) (text.alternatives_of ds name)
+    → option_map_or (λ f. all_seen w ds f.now) found (text.itself (text.taken_by w ds kind) ∷ []) ≡ text.fillings w ds kind
+offered w ds kind name found is some same =
+    subst (λ (k : Kind). option_map_or (λ f. all_seen w ds f.now) found (text.itself (text.taken_by w ds k) ∷ []) ≡ text.fillings w ds k) (sym is) (by found some same)
+  where
+    by :
+        (found : Option (Bor (List Filling))) → IfSome found (λ f. f.now ≢ [])
+        → all_seen w ds (option_map_or (λ f. f.now) found []) ≡ map (text.filling_of w ds) (text.alternatives_of ds name)
+        → option_map_or (λ f. all_seen w ds f.now) found (text.itself (text.taken_by w ds (Named name)) ∷ []) ≡ text.fillings w ds (Named name)
+    by None some same = offered_none w ds name same
+    by (Some f) some same = offered_some w ds name f.now some same
 
 pub as_many_holes : (w : ℕ) (ds : List Declaration) (ps : List Piece) → length (slots ps) ≡ length (text.holes_in (map (text.shown w ds) ps))
 as_many_holes w ds [] = refl

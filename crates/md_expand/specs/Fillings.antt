@@ -34,6 +34,3 @@ all_seen w ds fs = map (filling_seen w ds) fs
 abbrev pub hole_total : ℕ → List Declaration → List Filling → ℕ
 hole_total w ds [] = 0
 hole_total w ds (f ∷ fs) = length (text.holes_in (filling_seen w ds f).text) + hole_total w ds fs
-
-abbrev pub all_options : ℕ → List Declaration → List (Vec Filling) → List (List text.Filling)
-all_options w ds options = map (λ v. all_seen w ds v.items) options

@@ -1,54 +1,26 @@
 //! What may stand in place of a hole.
 
-ghost use Rattle.std.specs.Prelude.{◌≡◌, ◌∷◌, [], length, IfOk};
-ghost use Rattle.md_text.specs.Pieces.{slots, Named};
-ghost use Rattle.md_text.specs.Expansion.{fillings, holes_in};
+ghost use Rattle.std.specs.Prelude.{◌≡◌, ◌∷◌, [], length};
+ghost use Rattle.std.specs.Option.{option_map_or};
+ghost use Rattle.md_text.specs.Pieces.{slots};
+ghost use Rattle.md_text.specs.Expansion.{fillings, holes_in, itself, taken_by};
 ghost use Rattle.md_forms.specs.Seen.{kind_of, pieces_of};
 ghost use Rattle.md_expand.specs.Scope.{declared_in, filling_in, fillings_in};
 
 use crate::modes::Filling;
 use crate::scope::Scope;
-use crate::shown::taken_by;
 use md_forms::{Kind, Piece};
-use md_rows::Hole;
-use rtl_tree::NoMemory;
-use std::alloc::Global;
 
-fn itself<'a>(alloc: Global, hole: Hole) -> Result<Vec<Filling<'a>>, NoMemory>
-    ensures { IfOk result (λ found. found.items ≡ Filling.Itself hole ∷ []) }
+/// The alternatives of the mode that a hole of this kind is for, in order, if it is for one.
+pub fn alternatives_for<'s, 'a>(scope: &'s Scope<'a>, kind: &Kind) -> Option<&'s [Filling<'a>]>
+    ensures { option_map_or (λ found. fillings_in scope.now found.now) result
+        (itself (taken_by scope.now.width (declared_in scope.now) (kind_of kind.now)) ∷ [])
+        ≡ fillings scope.now.width (declared_in scope.now) (kind_of kind.now) }
 {
-    let mut found = Vec::new(alloc);
-    found.push(Filling::Itself(hole))?;
-    Ok(found)
-}
-
-fn named_fillings<'a>(
-    alloc: Global,
-    scope: &Scope<'a>,
-    name: &[u8],
-) -> Result<Vec<Filling<'a>>, NoMemory>
-    ensures { IfOk result (λ found. fillings_in scope.now found.items
-        ≡ fillings scope.now.width (declared_in scope.now) (Named name.now)) }
-{
-    match scope.alternatives_of(name) {
-        [] => itself(alloc, Hole::Reg(scope.bits_of(name))),
-        found => Ok(Vec::from_slice(alloc, found)?),
-    }
-}
-
-/// What may stand in place of a hole of this kind, in order.
-pub fn fillings<'a>(
-    alloc: Global,
-    scope: &Scope<'a>,
-    kind: &Kind,
-) -> Result<Vec<Filling<'a>>, NoMemory>
-    ensures { IfOk result (λ found. fillings_in scope.now found.items
-        ≡ fillings scope.now.width (declared_in scope.now) (kind_of kind.now)) }
-{
-    match kind {
-        Kind::Named(name) => named_fillings(alloc, scope, name.as_slice()),
-        _ => itself(alloc, taken_by(scope, kind)),
-    }
+    let Kind::Named(name) = kind else {
+        return None;
+    };
+    scope.alternatives_of(name.as_slice())
 }
 
 fn slot_count(text: &[Piece]) -> usize

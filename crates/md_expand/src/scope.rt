@@ -1,6 +1,7 @@
 //! What texts are read under.
 
-ghost use Rattle.std.specs.Prelude.{◌≡◌, ℕ, List, map, unwrap_or, IfOk, IsTrue};
+ghost use Rattle.std.specs.Prelude.{◌≡◌, ◌≢◌, [], ℕ, List, map, unwrap_or, IfOk, IfSome, IsTrue};
+ghost use Rattle.std.specs.Option.{option_map_or};
 ghost use Rattle.std.specs.Coded.{Π_prop};
 ghost use Rattle.md_text.specs.Declarations.{class_bits};
 ghost use Rattle.md_text.specs.Expansion.{alternatives_of, filling_of};
@@ -57,14 +58,18 @@ impl<'a> Scope<'a> {
         bits_under(&self.bits, name)
     }
 
-    /// The alternatives of the mode of this name, in order.
-    pub fn alternatives_of(&self, name: &[u8]) -> &[Filling<'a>]
-        ensures { let ds = declarations_of self.now.all.now in
-            all_seen self.now.width ds result.now ≡ map (filling_of self.now.width ds) (alternatives_of ds name.now) }
+    /// The alternatives of the mode of this name, in order, if there are any.
+    pub fn alternatives_of(&self, name: &[u8]) -> Option<&[Filling<'a>]>
+        ensures some { IfSome result (λ found. found.now ≢ []) }
+        ensures all { let ds = declarations_of self.now.all.now in
+            all_seen self.now.width ds (option_map_or (λ found. found.now) result [])
+            ≡ map (filling_of self.now.width ds) (alternatives_of ds name.now) }
     {
-        match self.alternatives.get(name) {
-            Some(found) => found.as_slice(),
-            None => &[],
+        let found = self.alternatives.get(name)?;
+        if found.is_empty() {
+            None
+        } else {
+            Some(found.as_slice())
         }
     }
 }

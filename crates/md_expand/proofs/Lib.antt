@@ -1,10 +1,9 @@
-pub mod ClassBits
+pub mod NamedBits
 pub mod ModeFillings
 pub mod MeantTrees
 pub mod Outcomes
 pub mod FilledMoves
 pub mod RowHoles
-pub mod Options
 pub mod Choices
 pub mod OtherLines
 pub mod Counted

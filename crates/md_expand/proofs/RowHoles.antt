@@ -5,7 +5,7 @@ use Rattle.md_text.specs.Pieces.{Piece, Literal, Hole, slots}
 use Rattle.md_text.specs.Declarations.{Declaration}
 use Rattle.md_text.specs.Expansion as text
 use Rattle.md_expand.specs.Fillings.{filling_seen, all_seen, hole_total}
-use Rattle.md_expand.specs.declared.fillings.Filling.{Filling}
+use Rattle.md_expand.specs.declared.modes.Filling.{Filling}
 
 pub holes_replaced :
     (w : ℕ) (ds : List Declaration) (ps : List Piece) (fs : List Filling) → length fs ≡ length (slots ps)

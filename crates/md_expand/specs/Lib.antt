@@ -1,5 +1,6 @@
 pub mod Bits
 pub mod Like
+pub mod Sets
 pub mod Seen
 pub mod Meant
 pub mod Fillings

@@ -1,15 +1,14 @@
 -- What stands in texts that are read under a scope.
 use Rattle.std.specs.Prelude.{ℕ, List, map}
-use Rattle.std.specs.Global.{Vec}
 use Rattle.rtl_spelling.specs.Holes.{Open}
 use Rattle.md_text.specs.Pieces.{slots}
 use Rattle.md_text.specs.Declarations.{Declaration}
 use Rattle.md_text.specs.Expansion as text
 use Rattle.md_forms.specs.Seen.{pieces_of, declarations_of}
 use Rattle.md_forms.specs.declared.pieces.Piece.{Piece}
-use Rattle.md_expand.specs.declared.fillings.Filling.{Filling}
+use Rattle.md_expand.specs.declared.modes.Filling.{Filling}
 use Rattle.md_expand.specs.declared.scope.Scope.{Scope}
-use Rattle.md_expand.specs.Fillings.{filling_seen, all_seen, hole_total, all_options}
+use Rattle.md_expand.specs.Fillings.{filling_seen, all_seen, hole_total}
 
 abbrev pub declared_in : Scope → List Declaration
 declared_in scope = declarations_of scope.all.now
@@ -19,13 +18,6 @@ filling_in scope filling = filling_seen scope.width (declared_in scope) filling
 
 abbrev pub fillings_in : Scope → List Filling → List text.Filling
 fillings_in scope chosen = all_seen scope.width (declared_in scope) chosen
-
-abbrev pub options_in : Scope → List (Vec Filling) → List (List text.Filling)
-options_in scope options = all_options scope.width (declared_in scope) options
-
--- what may stand in place of each hole of a text
-abbrev pub options_for : Scope → List Piece → List (List text.Filling)
-options_for scope pieces = map (λ h. text.fillings scope.width (declared_in scope) h.kind) (slots (pieces_of pieces))
 
 -- how many holes fillings have together
 abbrev pub hole_total_in : Scope → List Filling → ℕ

@@ -9,8 +9,8 @@ ghost use Rattle.md_expand.specs.Filled.{BothAllFilled};
 ghost use Rattle.md_expand.specs.Expanded.{IsExpanded};
 ghost use Rattle.md_expand.specs.Scope.{filling_in, fillings_in, hole_total_in, row_holes};
 
-use crate::fillings::Filling;
 use crate::meanings::row_leaves;
+use crate::modes::Filling;
 use crate::moves::{Filled, filled_moves};
 use crate::scope::Scope;
 use crate::shown::{Shown, push_shown, show_piece};

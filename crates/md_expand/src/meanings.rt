@@ -9,8 +9,9 @@ ghost use Rattle.md_expand.specs.Seen.{trees_of};
 ghost use Rattle.md_expand.specs.Scope.{filling_in, hole_total_in, slot_holes, row_holes};
 ghost use Rattle.md_expand.specs.Meant.{tree_named, IsMeant, AllMeant, register_in};
 
-use crate::fillings::{Filling, hole_count};
+use crate::fillings::hole_count;
 use crate::leaves::{Meaning, leaf};
+use crate::modes::Filling;
 use crate::scope::Scope;
 use crate::shown::taken_by;
 use crate::trees::with_leaves;

@@ -1,17 +1,18 @@
 //! All rows without modes.
 
-ghost use Rattle.std.specs.Prelude.{◌≡◌, ◌++◌, ◌∷◌, ◌+◌, ◌≤◌, [], take, length, IfOk};
+ghost use Rattle.std.specs.Prelude.{◌≡◌, ◌++◌, ◌∷◌, ◌+◌, ◌<◌, ◌≤◌, [], suc, take, length, IfOk};
 ghost use Rattle.md_text.specs.Pieces.{slots};
 ghost use Rattle.md_text.specs.Expansion.{expansions};
-ghost use Rattle.md_forms.specs.Seen.{pieces_of, form_of, declarations_of};
+ghost use Rattle.md_forms.specs.Seen.{slot_of, pieces_of, form_of, declarations_of};
 ghost use Rattle.md_expand.specs.Expanded.{AllExpanded};
-ghost use Rattle.md_expand.specs.Scope.{options_in, options_for};
-ghost use Rattle.md_expand.specs.Product.{rows_in, expansions_in, form_of_row, AddsRows};
+ghost use Rattle.md_expand.specs.Product.{rows_in, expansions_in, form_of_row, AddsRows, Writes};
 
 use crate::expanded::{Expanded, expand_row};
-use crate::fillings::{Filling, fillings};
+use crate::fillings::alternatives_for;
+use crate::modes::Filling;
 use crate::scope::Scope;
-use md_forms::{Declaration, Form, OpenTransfer, Piece};
+use crate::shown::taken_by;
+use md_forms::{Declaration, Form, OpenTransfer, Piece, Slot};
 use rtl_tree::NoMemory;
 use std::alloc::Global;
 
@@ -23,81 +24,97 @@ struct RowLine<'a> {
     transfer: &'a OpenTransfer,
 }
 
-/// What may stand in place of each hole of a text.
-fn options_of<'a>(
-    alloc: Global,
-    scope: &Scope<'a>,
-    text: &[Piece],
-) -> Result<Vec<Vec<Filling<'a>>>, NoMemory>
-    ensures { IfOk result (λ options.
-        options_in scope.now options.items ≡ options_for scope.now text.now) }
-{
-    let mut options = Vec::new(alloc);
-    for piece in text {
-        options = with_options(alloc, scope, options, piece)?;
-    }
-    Ok(options)
+/// What is chosen for the first holes of a row, and the rows that are done.
+#[derive(Drop)]
+struct Progress<'a> {
+    chosen: Vec<Filling<'a>>,
+    rows: Vec<Expanded>,
 }
 
-fn with_options<'a>(
-    alloc: Global,
-    scope: &Scope<'a>,
-    mut options: Vec<Vec<Filling<'a>>>,
-    piece: &Piece,
-) -> Result<Vec<Vec<Filling<'a>>>, NoMemory>
-    ensures { IfOk result (λ more. options_in scope.now more.items
-        ≡ options_in scope.now options.entry.items ++ options_for scope.now (piece.now ∷ [])) }
-{
-    if let Piece::Hole(slot) = piece {
-        options.push(fillings(alloc, scope, &slot.kind)?)?;
-    }
-    Ok(options)
-}
-
-fn extended<'a>(
-    alloc: Global,
-    chosen: &[Filling<'a>],
-    filling: Filling<'a>,
-) -> Result<Vec<Filling<'a>>, NoMemory>
-    ensures { IfOk result (λ more. more.items ≡ chosen.now ++ filling.entry ∷ []) }
-{
-    let mut more = Vec::from_slice(alloc, chosen)?;
-    more.push(filling)?;
-    Ok(more)
-}
-
-/// Writes the rows whose first holes are filled by what is chosen, one for each choice among the options of the others, until there
-/// are so many.
-fn expand_choices<'a>(
+/// Writes the rows where what is chosen and this filling stand in place of the first holes, unless there are enough rows.
+#[cycle(choices)]
+fn expand_filled<'a>(
     alloc: Global,
     scope: &Scope<'a>,
     row: RowLine<'_>,
-    options: &[Vec<Filling<'a>>],
-    chosen: &[Filling<'a>],
+    filling: Filling<'a>,
+    rest: &[Piece],
     limit: usize,
-    mut into: Vec<Expanded>,
-) -> Result<Vec<Expanded>, NoMemory>
-    requires room { length into.items ≤ limit }
-    requires slots { length chosen.now + length options.now ≡ length (slots (pieces_of row.text.now)) }
-    ensures room { IfOk result (λ more. length more.items ≤ limit) }
-    ensures rows { IfOk result (λ more.
-        AddsRows limit (rows_in scope.now row.entry chosen.now options.now) into.items more.items) }
+    mut progress: Progress<'a>,
+) -> Result<Progress<'a>, NoMemory>
+    requires room { length progress.rows.items ≤ limit }
+    requires slots { suc (length progress.chosen.items) + length (slots (pieces_of rest.now)) ≡ length (slots (pieces_of row.text.now)) }
+    ensures { IfOk result (Writes limit
+        (rows_in scope.now row.entry (progress.entry.chosen.items ++ filling.entry ∷ []) (slots (pieces_of rest.now)))
+        progress.entry) }
 {
-    if into.len() >= limit {
-        return Ok(into);
+    if progress.rows.len() >= limit {
+        return Ok(progress);
     }
-    match options {
-        [] => {
-            into.push(expand_row(alloc, scope, row.line, row.text, row.transfer, chosen)?)?;
-            Ok(into)
-        }
-        [first, rest @ ..] => {
-            for filling in first {
-                let more = extended(alloc, chosen, *filling)?;
-                into = expand_choices(alloc, scope, row, rest, &more, limit, into)?;
+    progress.chosen.push(filling)?;
+    let mut progress = expand_pieces(alloc, scope, row, rest, limit, progress)?;
+    let _last = progress.chosen.pop();
+    Ok(progress)
+}
+
+#[cycle(choices)]
+fn expand_hole<'a>(
+    alloc: Global,
+    scope: &Scope<'a>,
+    row: RowLine<'_>,
+    slot: &Slot,
+    rest: &[Piece],
+    limit: usize,
+    mut progress: Progress<'a>,
+) -> Result<Progress<'a>, NoMemory>
+    requires room { length progress.rows.items ≤ limit }
+    requires slots { suc (length progress.chosen.items) + length (slots (pieces_of rest.now)) ≡ length (slots (pieces_of row.text.now)) }
+    ensures { IfOk result (Writes limit
+        (rows_in scope.now row.entry progress.entry.chosen.items (slot_of slot.now ∷ slots (pieces_of rest.now)))
+        progress.entry) }
+{
+    match alternatives_for(scope, &slot.kind) {
+        Some(found) => {
+            for filling in found {
+                progress = expand_filled(alloc, scope, row, *filling, rest, limit, progress)?;
             }
-            Ok(into)
+            Ok(progress)
         }
+        None => {
+            let itself = Filling::Itself(taken_by(scope, &slot.kind));
+            expand_filled(alloc, scope, row, itself, rest, limit, progress)
+        }
+    }
+}
+
+/// Writes the rows where what is chosen stands in place of the first holes, one for each choice for the holes of the rest of the
+/// text, until there are so many.
+#[cycle(choices)]
+fn expand_pieces<'a>(
+    alloc: Global,
+    scope: &Scope<'a>,
+    row: RowLine<'_>,
+    rest: &[Piece],
+    limit: usize,
+    mut progress: Progress<'a>,
+) -> Result<Progress<'a>, NoMemory>
+    requires room { length progress.rows.items < limit }
+    requires slots { length progress.chosen.items + length (slots (pieces_of rest.now)) ≡ length (slots (pieces_of row.text.now)) }
+    ensures { IfOk result (Writes limit
+        (rows_in scope.now row.entry progress.entry.chosen.items (slots (pieces_of rest.now)))
+        progress.entry) }
+{
+    match rest {
+        [] => {
+            let chosen = progress.chosen.as_slice();
+            let expanded = expand_row(alloc, scope, row.line, row.text, row.transfer, chosen)?;
+            progress.rows.push(expanded)?;
+            Ok(progress)
+        }
+        [Piece::Hole(slot), rest @ ..] => {
+            expand_hole(alloc, scope, row, slot, rest, limit, progress)
+        }
+        [_, rest @ ..] => expand_pieces(alloc, scope, row, rest, limit, progress),
     }
 }
 
@@ -107,18 +124,19 @@ fn expand_row_line(
     scope: &Scope<'_>,
     row: RowLine<'_>,
     limit: usize,
-    into: Vec<Expanded>,
+    rows: Vec<Expanded>,
 ) -> Result<Vec<Expanded>, NoMemory>
-    requires room { length into.items ≤ limit }
+    requires room { length rows.items ≤ limit }
     ensures room { IfOk result (λ more. length more.items ≤ limit) }
     ensures rows { IfOk result (λ more.
-        AddsRows limit (expansions_in scope.now row.entry.line (form_of_row row.entry)) into.items more.items) }
+        AddsRows limit (expansions_in scope.now row.entry.line (form_of_row row.entry)) rows.items more.items) }
 {
-    if into.len() == limit {
-        return Ok(into);
+    if rows.len() == limit {
+        return Ok(rows);
     }
-    let options = options_of(alloc, scope, row.text)?;
-    expand_choices(alloc, scope, row, &options, &[], limit, into)
+    let progress = Progress { chosen: Vec::new(alloc), rows };
+    let progress = expand_pieces(alloc, scope, row, row.text, limit, progress)?;
+    Ok(progress.rows)
 }
 
 /// Writes the rows that come of a line, until there are so many.

@@ -2,8 +2,8 @@ use Rattle.std.proofs.Common.{ℕ, ◌+◌, ◌≤◌, length, sym, subst}
 use Rattle.std.specs.Prelude.{IfOk}
 use Rattle.md_text.specs.Expansion.{holes_in}
 use Rattle.md_forms.specs.Seen.{pieces_of, declarations_of}
-use Rattle.md_expand.specs.declared.fillings.Filling.{Filling}
-use Rattle.md_expand.specs.declared.fillings.Filling.TheVariants.{Alternative}
+use Rattle.md_expand.specs.declared.modes.Filling.{Filling}
+use Rattle.md_expand.specs.declared.modes.Filling.TheVariants.{Alternative}
 use Rattle.md_expand.specs.Meant.{IsMeant}
 use Rattle.md_expand.specs.Fillings.{filling_seen}
 use Rattle.md_expand.proofs.ModeFillings.{as_many_holes}

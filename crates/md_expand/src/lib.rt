@@ -5,13 +5,13 @@
 //! of the row that is meant, and its transfer but for holes with numbers from 256 on. `passing_line` and `is_too_large` tell of such
 //! rows which are too many or too large.
 //!
-//! - `scope`: what texts are read under, with the registers of each class as bits.
+//! - `scope`: what texts are read under, with the registers of each class and the alternatives of each mode ready to be found, as
+//!   `registers` and `modes` gather them.
 //! - `shown`, `fillings`: the text of a row without modes, and what may stand in place of a hole.
 //! - `leaves`, `trees`, `meanings`: the trees that stand in place of holes.
 //! - `moves`, `expanded`: transfers and rows with trees in place of holes.
 //! - `product`: all rows in order.
 //! - `counts`, `depths`, `sizes`: rows that are too many or too large.
-//! - `fits`: whether the registers of declarations fit in 64 bits.
 //!
 //! Of the proofs, `RegisterNumbers` (registers in range fit in 64 bits), `RowLimits` (what a row has that breaks no rule) and
 //! `Unbroken` are for crates above.
@@ -21,7 +21,6 @@ mod counts;
 mod depths;
 mod expanded;
 mod fillings;
-mod fits;
 mod leaves;
 mod meanings;
 mod modes;
@@ -37,7 +36,6 @@ mod trees;
 
 pub use counts::{MOST_ROWS, passing_line};
 pub use expanded::Expanded;
-pub use fits::fit_in_64;
 pub use moves::Filled;
 pub use product::expand;
 pub use scope::Scope;

@@ -134,7 +134,10 @@ fn expand_row_line(
     if rows.len() == limit {
         return Ok(rows);
     }
-    let progress = Progress { chosen: Vec::new(alloc), rows };
+    let progress = Progress {
+        chosen: Vec::new(alloc),
+        rows,
+    };
     let progress = expand_pieces(alloc, scope, row, row.text, limit, progress)?;
     Ok(progress.rows)
 }

@@ -119,10 +119,7 @@ fn with_class<'a>(
 }
 
 /// The registers of each class, a bit for each. Of classes of one name the first counts.
-pub fn bits_by_class<'a>(
-    alloc: Global,
-    all: &'a [Declaration],
-) -> Result<BitsByName<'a>, NoMemory>
+pub fn bits_by_class<'a>(alloc: Global, all: &'a [Declaration]) -> Result<BitsByName<'a>, NoMemory>
     requires { FitIn64 (declarations_of all.now) }
     ensures { IfOk result (λ bits. (name : List ℕ)
         → unwrap_or (bits_at bits name) 0 ≡ class_bits (declarations_of all.now) name) }

@@ -29,8 +29,7 @@ pub struct Scope<'a> {
         → unwrap_or (bits_at bits name) 0 ≡ class_bits (declarations_of all.now) name },
     ghost has_alternatives: { let ds = declarations_of all.now in
         (name : List ℕ) → all_seen width ds (listed alternatives name)
-        ≡ map (filling_of width ds) (alternatives_of ds name) }
-        by { Π_prop (λ _. fillings_set _ _) },
+        ≡ map (filling_of width ds) (alternatives_of ds name) } by { Π_prop (λ _. fillings_set _ _) },
 }
 
 impl<'a> Scope<'a> {

@@ -69,3 +69,91 @@ fn each_alternative_gives_a_row(rt: HostRuntime) -> Result<(), Fail> {
     assert_eq!(rt; cut, 1);
     Ok(())
 }
+
+fn register(alloc: Global, number: i64, name: &[u8]) -> Result<Declaration, NoMemory> {
+    Ok(Declaration {
+        line: 1,
+        form: Form::RegisterLine {
+            number,
+            name: bytes(alloc, name)?,
+            role: md_rows::Role::General,
+        },
+    })
+}
+
+fn class(alloc: Global) -> Result<Declaration, NoMemory> {
+    let mut registers = Items::new(alloc);
+    registers.push(bytes(alloc, b"r0")?)?;
+    registers.push(bytes(alloc, b"r1")?)?;
+    Ok(Declaration {
+        line: 1,
+        form: Form::ClassLine {
+            name: bytes(alloc, b"r")?,
+            registers,
+        },
+    })
+}
+
+fn wide_row(alloc: Global, line: u32) -> Result<Declaration, NoMemory> {
+    let mut text = Items::new(alloc);
+    let mut names = Items::new(alloc);
+    text.push(Piece::Name(bytes(alloc, b"add")?))?;
+    let mut letter = 0;
+    while letter < 4 {
+        let held = [97 + letter];
+        let name = bytes(alloc, &held)?;
+        let kind = Kind::Named(bytes(alloc, b"r")?);
+        text.push(Piece::Hole(Slot { name, kind }))?;
+        text.push(Piece::Mark(44))?;
+        names.push(bytes(alloc, &held)?)?;
+        letter += 1;
+    }
+    let mut moves = Items::new(alloc);
+    moves.push(Said {
+        to: Some(Place::Cell(Cell::Hole(0))),
+        value: Expr::Bin(
+            rtl_tree::BinOp::Add,
+            Box::new(alloc, Expr::Cell(Cell::Hole(1)))?,
+            Box::new(alloc, Expr::Cell(Cell::Hole(2)))?,
+        ),
+    })?;
+    Ok(Declaration {
+        line,
+        form: Form::RowLine {
+            text,
+            transfer: OpenTransfer { names, moves },
+        },
+    })
+}
+
+fn many(alloc: Global, rows: u32, others: u32) -> Result<usize, NoMemory> {
+    let mut all = Vec::new(alloc);
+    let mut line = 0;
+    while line < others {
+        all.push(register(alloc, 1, b"q")?)?;
+        all.push(class(alloc)?)?;
+        all.push(alternative(alloc, line, b"m", line)?)?;
+        line += 1;
+    }
+    line = 0;
+    while line < rows {
+        all.push(wide_row(alloc, line)?)?;
+        line += 1;
+    }
+    let scope = Scope::new(alloc, 16, &all)?;
+    Ok(expand(alloc, &scope, 4097)?.len())
+}
+
+#[test]
+fn many_rows(rt: HostRuntime) -> Result<(), Fail> {
+    let alloc = rt.alloc();
+    let start = std::time::Instant::now(&rt)?;
+    let whole = many(alloc, 4000, 0)?;
+    assert_eq!(rt; whole, 4000);
+    println!(rt; "{} ms for no others", start.elapsed(&rt)?.as_millis())?;
+    let start = std::time::Instant::now(&rt)?;
+    let whole = many(alloc, 4000, 20000)?;
+    assert_eq!(rt; whole, 4000);
+    println!(rt; "{} ms for 60000 others", start.elapsed(&rt)?.as_millis())?;
+    Ok(())
+}

@@ -75,8 +75,8 @@ fn the_pdp11_with_less(rt: HostRuntime) -> Result<(), Fail> {
     assert!(rt; is_refused(alloc, &without_bic, 69, 17, 18)?);
     let without_both = edited(alloc, &without_bic, 43, 1, b"")?;
     assert!(rt; is_refused(alloc, &without_both, 68, 17, 17)?);
-    let text = Pdp11.text();
-    assert!(rt; is_refused(alloc, &text[..text.len() - 1], 70, 1, 0)?);
+    let unended = edited(alloc, Pdp11.text(), 70, 1, b"row sys exit | HALT = r[0]")?;
+    assert!(rt; is_refused(alloc, &unended, 70, 1, 0)?);
     assert!(rt; is_refused(alloc, b"", 1, 2, 0)?);
     Ok(())
 }

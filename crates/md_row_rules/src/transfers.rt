@@ -1,129 +1,25 @@
 //! Whether the transfer of a row without modes is good.
 
-ghost use Rattle.std.specs.Prelude.{◌≡◌, ◌↔◌, ◌≤◌, true, false, IsTrue, All, AllPairs, count_by, nat_le};
+ghost use Rattle.std.specs.Prelude.{◌≡◌, ◌↔◌, ◌≤◌, true, false, IsTrue, All, AllPairs, count_by};
 ghost use Rattle.std.specs.List.{list_any};
 ghost use Rattle.rtl_tree.specs.Trees.{tree_of};
 ghost use Rattle.rtl_tree.specs.Moves.{goal_of};
-ghost use Rattle.rtl_tree.specs.WellFormed.{compares_for_flag, free_of_both, is_shallow, is_store, IsPlaced, jumps_by_counter, reads_no_output, same_goal_cell, takes_for_register, tests_flags, depth};
+ghost use Rattle.rtl_tree.specs.WellFormed.{is_store, IsPlaced, same_goal_cell};
 ghost use Rattle.md_text.specs.Rules.{is_temporary, cells_in, cells_of_goal, HasGoodTransfer};
 ghost use Rattle.md_text.specs.Expansion.{Expanded as Row};
 ghost use Rattle.md_expand.specs.Expanded.{IsExpanded};
 ghost use Rattle.md_row_rules.specs.Goods.{filled_apart, same_place, uses_temporary, AreGood, IsGood};
 
 use md_expand::{Expanded, Filled};
-use rtl_tree::{
-    Assign, Cell, Construct, Expr, Place, are_flags_tested, is_free, is_free_below, is_root,
-    is_same,
-};
-
-/// The greatest depth of a tree in a well-formed transfer; a leaf has depth 1.
-const GREATEST_DEPTH: u32 = 32;
+use rtl_tree::{Cell, Construct, Expr, Place, is_placed, is_root, is_to_memory, is_to_same_cell};
 
 /// The most assignments of a transfer.
 const MOST_ASSIGNMENTS: usize = 6;
-
-// Whether a tree is at most so deep. The recursion is never deeper than `limit`.
-fn is_within(tree: &Expr, limit: u32) -> bool
-    ensures { result ≡ nat_le (depth (tree_of tree.now)) limit }
-{
-    if limit == 0 {
-        return false;
-    }
-    match tree {
-        Expr::Mem(_, a) | Expr::Un(_, a) => is_within(a, limit - 1),
-        Expr::Bin(_, a, b) => is_within(a, limit - 1) && is_within(b, limit - 1),
-        _ => true,
-    }
-}
-
-fn has_depth(a: &Assign) -> bool
-    ensures { result ≡ is_shallow a.now.to a.now.value }
-{
-    let place = match &a.to {
-        Place::Cell(_) => true,
-        Place::Mem(_, at) => is_within(at, GREATEST_DEPTH - 1),
-    };
-    place && is_within(&a.value, GREATEST_DEPTH)
-}
-
-fn lacks(a: &Assign, construct: Construct) -> bool
-    ensures { result ≡ free_of_both construct a.now.to a.now.value }
-{
-    match &a.to {
-        Place::Cell(_) => is_free(&a.value, construct),
-        Place::Mem(_, at) => is_free(at, construct) && is_free(&a.value, construct),
-    }
-}
-
-fn has_pairs_for_flags(a: &Assign) -> bool
-    ensures { result ≡ compares_for_flag a.now.to a.now.value }
-{
-    match &a.to {
-        Place::Cell(Cell::Flag(_)) => {
-            is_root(&a.value, Construct::Compared) && is_free_below(&a.value, Construct::Compared)
-        }
-        _ => lacks(a, Construct::Compared),
-    }
-}
-
-fn has_tests_of_flags(a: &Assign) -> bool
-    ensures { result ≡ tests_flags a.now.to a.now.value }
-{
-    match &a.to {
-        Place::Cell(_) => are_flags_tested(&a.value),
-        Place::Mem(_, at) => are_flags_tested(at) && are_flags_tested(&a.value),
-    }
-}
-
-fn has_jumps_by_counter(a: &Assign) -> bool
-    ensures { result ≡ jumps_by_counter a.now.to a.now.value }
-{
-    match &a.to {
-        Place::Cell(Cell::Pc) => is_free_below(&a.value, Construct::Jump),
-        _ => lacks(a, Construct::Jump),
-    }
-}
-
-fn has_input_for_registers(a: &Assign) -> bool
-    ensures { result ≡ takes_for_register a.now.to a.now.value }
-{
-    match &a.to {
-        Place::Cell(Cell::Input) => false,
-        Place::Cell(Cell::Hard(_) | Cell::Temp(_) | Cell::Hole(_)) => {
-            is_free_below(&a.value, Construct::Taken)
-        }
-        _ => lacks(a, Construct::Taken),
-    }
-}
-
-fn has_no_output_read(a: &Assign) -> bool
-    ensures { result ≡ reads_no_output a.now.to a.now.value }
-{
-    lacks(a, Construct::Written)
-}
-
-// Whether each part of one assignment stands where it may.
-fn is_placed(a: &Assign) -> bool
-    ensures { IsTrue result ↔ IsPlaced a.now }
-{
-    has_depth(a)
-        && has_pairs_for_flags(a)
-        && has_tests_of_flags(a)
-        && has_jumps_by_counter(a)
-        && has_input_for_registers(a)
-        && has_no_output_read(a)
-}
 
 fn are_placed(list: &[Filled]) -> bool
     ensures { IsTrue result ↔ All (λ f. IsPlaced f.assign) list.now }
 {
     list.iter().all(|filled| is_placed(&filled.assign))
-}
-
-fn is_to_memory(a: &Assign) -> bool
-    ensures { result ≡ is_store a.now.to }
-{
-    matches!(a.to, Place::Mem(_, _))
 }
 
 fn has_one_store(list: &[Filled]) -> bool
@@ -133,15 +29,6 @@ fn has_one_store(list: &[Filled]) -> bool
         .filter(|filled| is_to_memory(&filled.assign))
         .count()
         <= 1
-}
-
-fn is_to_same_cell(a: &Assign, b: &Assign) -> bool
-    ensures { result ≡ same_goal_cell a.now.to b.now.to }
-{
-    match (&a.to, &b.to) {
-        (Place::Cell(c), Place::Cell(d)) => is_same(*c, *d),
-        _ => false,
-    }
 }
 
 fn is_to_same_place(a: &Filled, b: &Filled) -> bool

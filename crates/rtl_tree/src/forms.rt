@@ -12,8 +12,8 @@ use crate::transfers::{Assign, Effects, Place};
 /// The greatest depth of a tree in a well-formed transfer; a leaf has depth 1.
 const GREATEST_DEPTH: u32 = 32;
 
-// Whether a tree is at most so deep. The recursion is never deeper than `limit`.
-fn is_within(e: &Expr, limit: u32) -> bool
+/// Whether a tree is at most so deep; a leaf has depth 1. The recursion is never deeper than `limit`.
+pub fn is_within(e: &Expr, limit: u32) -> bool
     ensures { result ≡ nat_le (depth (tree_of e.now)) limit }
 {
     if limit == 0 {
@@ -93,13 +93,15 @@ fn has_no_output_read(a: &Assign) -> bool
     lacks(a, Construct::Written)
 }
 
-fn is_to_memory(a: &Assign) -> bool
+/// Whether an assignment is a store.
+pub fn is_to_memory(a: &Assign) -> bool
     ensures { result ≡ is_store a.now.to }
 {
     matches!(a.to, Place::Mem(_, _))
 }
 
-fn is_to_same_cell(a: &Assign, b: &Assign) -> bool
+/// Whether two assignments set one cell.
+pub fn is_to_same_cell(a: &Assign, b: &Assign) -> bool
     ensures { result ≡ same_goal_cell a.now.to b.now.to }
 {
     match (&a.to, &b.to) {
@@ -137,8 +139,8 @@ fn has_one_store(list: &[Assign]) -> bool
     list.iter().filter(|a| is_to_memory(a)).count() <= 1
 }
 
-// Whether each part of one assignment stands where it may.
-fn is_placed(a: &Assign) -> bool
+/// Whether each part of one assignment stands where it may, and its trees are at most 32 deep.
+pub fn is_placed(a: &Assign) -> bool
     ensures { IsTrue result ↔ IsPlaced a.now }
 {
     has_depth(a)

@@ -24,7 +24,7 @@ pub use cells::{Cell, Lab, is_same, is_same_label};
 pub use constructs::{Construct, are_flags_tested, is_free, is_free_below, is_root};
 pub use copies::{copy, same, take};
 pub use expressions::{BinOp, Expr, UnOp, Width};
-pub use forms::well_formed;
+pub use forms::{is_placed, is_to_memory, is_to_same_cell, is_within, well_formed};
 pub use likeness::{alike, is_commutative};
 pub use memory::NoMemory;
 pub use substitution::substitute;

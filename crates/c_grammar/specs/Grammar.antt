@@ -9,6 +9,7 @@ use Rattle.c_tree.specs.declared.syntax.Size.{Size}
 use Rattle.c_tree.specs.declared.syntax.Size.TheVariants as size
 use Rattle.c_tree.specs.declared.syntax.Initialiser.{Initialiser}
 use Rattle.c_tree.specs.declared.syntax.Initialiser.TheVariants as initialiser
+use Rattle.c_tree.specs.declared.syntax.Identifier.{Identifier}
 use Rattle.c_tree.specs.declared.syntax.Item.{Item}
 use Rattle.c_tree.specs.declared.syntax.Return.{Return}
 use Rattle.c_tree.specs.declared.syntax.Return.TheVariants as gives
@@ -29,7 +30,7 @@ use Rattle.c_grammar.specs.declared.sign.Sign.{Sign}
 use Rattle.c_grammar.specs.declared.sign.Sign.TheVariants as sign
 use Rattle.c_grammar.specs.Words.{Word, a_name, a_number, a_character, a_sign}
 use Rattle.c_grammar.specs.Operators.{precedence, binary_sign, assign_sign, unary_sign, step_sign, type_signs}
-use Rattle.c_grammar.specs.Phrases.{Part, the, mark, sub, open_, expr, item, piece, only, Said, node, phrase, the_sign, operator, name, each, commas, some}
+use Rattle.c_grammar.specs.Phrases.{Part, the, mark, sub, open_, expr, item, piece, only, Said, node, phrase, the_sign, operator, name, placed, each, commas, some}
 
 -- words of a type in their order
 abbrev pub signs : List Sign → List Part
@@ -88,18 +89,21 @@ last_comma false = []
 abbrev pub initialised : Initialiser → List Part
 initialised initialiser.Absent = []
 initialised (initialiser.Value e) = the_sign sign.Assign ∷ assign (about e) ∷ []
-initialised (initialiser.List es last) = some es ∷ the_sign sign.Assign ∷ the_sign sign.LeftBrace ∷ (commas assign (map about es) ++ (last_comma last ++ the_sign sign.RightBrace ∷ []))
+initialised (initialiser.List at es last) = some es ∷ the_sign sign.Assign ∷ placed at (a_sign sign.LeftBrace) ∷ (commas assign (map about es) ++ (last_comma last ++ the_sign sign.RightBrace ∷ []))
 
 abbrev pub declarator : Item → Said
-declarator i = node i.at 0 (name i.name ∷ (sized i.size ++ initialised i.initialiser))
+declarator i = node i.name.at 0 (name i.name.bytes ∷ (sized i.size ++ initialised i.initialiser))
 
 abbrev pub returned : Return → List Part
 returned gives.Void = the_sign sign.Void ∷ []
 returned (gives.Value t) = type t
 
-abbrev pub maybe_name : Option (List ℕ) → List Part
+abbrev pub identifier : Identifier → Part
+identifier i = placed i.at (a_name i.bytes)
+
+abbrev pub maybe_name : Option Identifier → List Part
 maybe_name None = []
-maybe_name (Some n) = name n ∷ []
+maybe_name (Some n) = identifier n ∷ []
 
 abbrev pub parameter : Parameter → Said
 parameter p = node p.at 0 (type p.words ++ maybe_name p.name)
@@ -110,8 +114,8 @@ listed parameters.Void = the_sign sign.Void ∷ []
 listed (parameters.List ps) = some ps ∷ commas piece (map parameter ps)
 
 -- name "(" parameters ")"
-abbrev pub called : List ℕ → Parameters → List Part → List Part
-called n ps more = name n ∷ the_sign sign.LeftParen ∷ (listed ps ++ the_sign sign.RightParen ∷ more)
+abbrev pub called : Identifier → Parameters → List Part → List Part
+called n ps more = identifier n ∷ the_sign sign.LeftParen ∷ (listed ps ++ the_sign sign.RightParen ∷ more)
 
 abbrev pub declared : Declaration → Said
 declared (declaration.Objects at t items) = node at 0 (type t ++ (some items ∷ commas piece (map declarator items) ++ the_sign sign.Semicolon ∷ []))
@@ -166,4 +170,4 @@ part (external.Declared d) = declared d
 part (external.Defined at r n ps body) = node at 0 (returned r ++ called n ps (block (map about_statement body) ∷ []))
 
 abbrev pub program : Syntax → Said
-program p = phrase (each piece (map part p.parts) ++ the_sign sign.End ∷ [])
+program p = phrase (each piece (map part p.parts) ++ placed p.end (a_sign sign.End) ∷ [])

@@ -123,6 +123,10 @@ operator s = mark (a_sign s)
 abbrev pub name : List ℕ → Part
 name bytes = the (a_name bytes)
 
+-- a token that the tree has the place of
+abbrev pub placed : At → Word → Part
+placed at w = piece (node at 0 (the w ∷ []))
+
 abbrev pub each : (Said → Part) → List Said → List Part
 each part [] = []
 each part (a ∷ more) = part a ∷ each part more

@@ -37,7 +37,7 @@ pub fn parse(alloc: Global, tokens: &Vec<Token>) -> Result<Syntax, CFault>
 {
     let tokens = tokens.as_slice();
     match read(alloc, tokens) {
-        Ok(parts) => Ok(Syntax { parts }),
+        Ok(tree) => Ok(tree),
         Err(Fault::Wrong(left)) => Err(CFault::Bad(reason(tokens, left, 5))),
         Err(Fault::Deep(left)) => Err(CFault::Bad(reason(tokens, left, 6))),
         Err(Fault::NoMemory) => Err(CFault::NoMemory),

@@ -233,7 +233,7 @@ impl Page {
                 self.put(b" = ")?;
                 self.expr(e)
             }
-            Initialiser::List(es, comma) => {
+            Initialiser::List(_, es, comma) => {
                 self.put(b" = {")?;
                 self.list(es.as_slice())?;
                 self.put(if *comma { b",}" } else { b"}" })
@@ -242,7 +242,7 @@ impl Page {
     }
 
     fn item(&mut self, item: &Item) -> Printed {
-        self.put(item.name.as_slice())?;
+        self.put(item.name.bytes.as_slice())?;
         self.size(&item.size)?;
         self.initialiser(&item.initialiser)
     }
@@ -263,7 +263,7 @@ impl Page {
             None => Ok(()),
             Some(name) => {
                 self.put(b" ")?;
-                self.put(name.as_slice())
+                self.put(name.bytes.as_slice())
             }
         }
     }
@@ -301,7 +301,7 @@ impl Page {
                 self.items(items.as_slice())
             }
             Declaration::Function(_, gives, name, parameters) => {
-                self.function(gives, name.as_slice(), parameters)?;
+                self.function(gives, name.bytes.as_slice(), parameters)?;
                 self.put(b";")
             }
         }
@@ -427,7 +427,7 @@ impl Page {
                 body,
                 ..
             } => {
-                self.function(gives, name.as_slice(), parameters)?;
+                self.function(gives, name.bytes.as_slice(), parameters)?;
                 self.put(b"{")?;
                 for statement in body.as_slice() {
                     self.statement(statement)?;

@@ -11,7 +11,7 @@ use Rattle.c_grammar.specs.declared.sign.Sign.{Sign}
 use Rattle.c_grammar.specs.declared.sign.Sign.TheVariants as sign
 use Rattle.c_grammar.specs.Words.{Word, a_name, a_number, a_character, a_sign, Lexeme}
 use Rattle.c_grammar.specs.Operators.{precedence}
-use Rattle.c_reading.specs.Parsers.{Read, Parser, Wrong, Deep, Out, and_then, same, sign_at, word_at, eat, counted, expect, name, name_by, name_if_any, name_if_any_by, more}
+use Rattle.c_reading.specs.Parsers.{Read, Parser, Wrong, Deep, Out, and_then, same, sign_at, word_at, place_at, eat, counted, expect, name, name_by, name_if_any, name_if_any_by, more}
 use Rattle.c_reading.specs.Trees.{is_unary, binary_of, assign_of, type_of, joined}
 use Rattle.c_reading.specs.Expressions.{Goal, Reader, expr, assign, conditional, cast, unary, binary, after_comma, after_postfix, after_operand, in_call, second_word, first_word, type_words, parenthesis, called, called_by, named, named_by, primary, primary_by, stepped, signed, unary_by, cast_or_parenthesis, cast_or_parenthesis_by, cast_by, operated, branches, conditional_by, assigned, after_left, comma_by, stepped_behind, postfix_by, step, read}
 
@@ -80,23 +80,23 @@ module _ (T : ℕ → Bool) where
 
   pub name_sure : (n : ℕ) (ts : List Lexeme) → Sure (length ts) (name T n ts)
   unfolding name
-  name_sure n ts = go (word_at ts)
+  name_sure n ts = go (place_at ts) (word_at ts)
     where
-      go : (w : Word) → Sure (length ts) (name_by T w n ts)
-      go (a_name b) = eaten_sure b n ts
-      go (a_number v d u) = tt
-      go (a_character c) = tt
-      go (a_sign s) = tt
+      go : (at : At) (w : Word) → Sure (length ts) (name_by T at w n ts)
+      go at (a_name b) = eaten_sure _ n ts
+      go at (a_number v d u) = tt
+      go at (a_character c) = tt
+      go at (a_sign s) = tt
 
   pub name_if_any_sure : (n : ℕ) (ts : List Lexeme) → Sure (suc (length ts)) (name_if_any T n ts)
   unfolding name_if_any
-  name_if_any_sure n ts = go (word_at ts)
+  name_if_any_sure n ts = go (place_at ts) (word_at ts)
     where
-      go : (w : Word) → Sure (suc (length ts)) (name_if_any_by T w n ts)
-      go (a_name b) = sure_more (length ts) (suc (length ts)) _ (omega arith) (eaten_sure (Some b) n ts)
-      go (a_number v d u) = omega arith
-      go (a_character c) = omega arith
-      go (a_sign s) = omega arith
+      go : (at : At) (w : Word) → Sure (suc (length ts)) (name_if_any_by T at w n ts)
+      go at (a_name b) = sure_more (length ts) (suc (length ts)) _ (omega arith) (eaten_sure _ n ts)
+      go at (a_number v d u) = omega arith
+      go at (a_character c) = omega arith
+      go at (a_sign s) = omega arith
 
   pub more_sure : (s : Sign) (n : ℕ) (ts : List Lexeme) → Sure (length ts) (more T s n ts)
   unfolding more

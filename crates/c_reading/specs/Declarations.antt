@@ -7,6 +7,7 @@ use Rattle.c_tree.specs.declared.syntax.Size.{Size}
 use Rattle.c_tree.specs.declared.syntax.Size.TheVariants as size_
 use Rattle.c_tree.specs.declared.syntax.Initialiser.{Initialiser}
 use Rattle.c_tree.specs.declared.syntax.Initialiser.TheVariants as initialiser_
+use Rattle.c_tree.specs.declared.syntax.Identifier.{Identifier}
 use Rattle.c_tree.specs.declared.syntax.Item.{Item}
 use Rattle.c_tree.specs.declared.syntax.Return.{Return}
 use Rattle.c_tree.specs.declared.syntax.Return.TheVariants as return_
@@ -54,26 +55,29 @@ module _ (T : ℕ → Bool) where
     pure (x, end)
 
   -- the list that ends here, or what goes on
-  abbrev pub listed : List Expr → Parser Initialiser → Option Bool → Parser Initialiser
-  listed es p None = p
-  listed es p (Some comma) = pure (initialiser_.List es comma)
+  abbrev pub listed : At → List Expr → Parser Initialiser → Option Bool → Parser Initialiser
+  listed at es p None = p
+  listed at es p (Some comma) = pure (initialiser_.List at es comma)
 
-  -- the values in braces behind those that were read
-  unfoldable pub values : ℕ → List Expr → Parser Initialiser
-  values zero es = out
-  values (suc d) es = do
+  -- the values in the braces that begin there, behind those that were read
+  unfoldable pub values : ℕ → At → List Expr → Parser Initialiser
+  values zero at es = out
+  values (suc d) at es = do
     x ← next_value d
-    listed (es ++ x.0 ∷ []) (values d (es ++ x.0 ∷ [])) x.1
+    listed at (es ++ x.0 ∷ []) (values d at (es ++ x.0 ∷ [])) x.1
 
-  abbrev pub value_by : ℕ → Sign → Parser Initialiser
-  value_by d sign.LeftBrace = eat T >> values d []
-  value_by d _ = do
+  abbrev pub value_by : ℕ → At → Sign → Parser Initialiser
+  value_by d at sign.LeftBrace = eat T >> values d at []
+  value_by d at _ = do
     e ← read T d assign
     pure (initialiser_.Value e)
 
   -- behind the equals sign
   unfoldable pub value : ℕ → Parser Initialiser
-  value d = peek >>= value_by d
+  value d = do
+    at ← place
+    s ← peek
+    value_by d at s
 
   unfoldable pub initialiser : ℕ → Parser Initialiser
   initialiser d = do
@@ -81,24 +85,23 @@ module _ (T : ℕ → Bool) where
     if same s sign.Assign then eat T >> value d else pure initialiser_.Absent
 
   -- behind the name of an object
-  unfoldable pub object : ℕ → At → List ℕ → Parser Item
-  object d at n = do
+  unfoldable pub object : ℕ → Identifier → Parser Item
+  object d n = do
     z ← size (read T d)
     i ← initialiser d
-    pure (record { at = at; name = n; size = z; initialiser = i })
+    pure (record { name = n; size = z; initialiser = i })
 
   -- an object, and whether a comma stands behind it
-  unfoldable pub next_object : ℕ → At → List ℕ → Parser (Item × Bool)
-  next_object d at n = do
-    i ← object d at n
+  unfoldable pub next_object : ℕ → Identifier → Parser (Item × Bool)
+  next_object d n = do
+    i ← object d n
     goes_on ← more T sign.Semicolon
     pure (i, goes_on)
 
   unfoldable pub next_item : ℕ → Parser (Item × Bool)
   next_item d = do
-    at ← place
     n ← name T
-    next_object d at n
+    next_object d n
 
   -- the objects behind those that were read, up to the semicolon
   unfoldable pub items : ℕ → List Item → Parser (List Item)
@@ -108,9 +111,9 @@ module _ (T : ℕ → Bool) where
     if x.1 then items d (is ++ x.0 ∷ []) else pure (is ++ x.0 ∷ [])
 
   -- the objects, where the first one's name was read
-  unfoldable pub objects : ℕ → At → List ℕ → Parser (List Item)
-  objects d at n = do
-    x ← next_object d at n
+  unfoldable pub objects : ℕ → Identifier → Parser (List Item)
+  objects d n = do
+    x ← next_object d n
     if x.1 then items d (x.0 ∷ []) else pure (x.0 ∷ [])
 
   -- ---- parameters
@@ -151,7 +154,7 @@ module _ (T : ℕ → Bool) where
   -- ---- declarations
 
   -- behind the name of a function
-  unfoldable pub heading : ℕ → At → Return → List ℕ → Parser Opening
+  unfoldable pub heading : ℕ → At → Return → Identifier → Parser Opening
   heading d at r n = do
     expect T sign.LeftParen
     ps ← parameters d
@@ -160,11 +163,10 @@ module _ (T : ℕ → Bool) where
   -- behind the type of a declaration
   unfoldable pub typed_opening : ℕ → At → TypeWords → Parser Opening
   typed_opening d at w = do
-    p ← place
     n ← name T
     s ← peek
     if same s sign.LeftParen then heading d at (return_.Value w) n else (do
-      is ← objects d p n
+      is ← objects d n
       pure (opening_.Objects (declaration_.Objects at w is)))
 
   abbrev pub opening_by : ℕ → At → Sign → Parser Opening

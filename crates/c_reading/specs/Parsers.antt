@@ -2,6 +2,7 @@
 use Rattle.std.specs.Prelude.{ℕ, suc, Bool, true, false, if◌then◌else◌, List, [], ◌∷◌, length, Option, Some, None, Result, Ok, Err}
 use denote.Enum.Bare.{sameb}
 use Rattle.c_tree.specs.declared.token.At.{At}
+use Rattle.c_tree.specs.declared.syntax.Identifier.{Identifier}
 use Rattle.c_grammar.specs.contracts.sign.Sign.{the_type}
 use Rattle.c_grammar.specs.declared.sign.Sign.{Sign}
 use Rattle.c_grammar.specs.declared.sign.Sign.TheVariants as sign
@@ -88,19 +89,19 @@ module _ (T : ℕ → Bool) where
     next ← peek
     if same next s then eat else wrong
 
-  abbrev pub name_by : Word → Parser (List ℕ)
-  name_by (a_name bytes) = eat >> pure bytes
-  name_by _ = wrong
+  abbrev pub name_by : At → Word → Parser Identifier
+  name_by at (a_name bytes) = eat >> pure (record { at = at; bytes = bytes })
+  name_by at _ = wrong
 
-  unfoldable pub name : Parser (List ℕ)
-  name = λ n ts. name_by (word_at ts) n ts
+  unfoldable pub name : Parser Identifier
+  name = λ n ts. name_by (place_at ts) (word_at ts) n ts
 
-  abbrev pub name_if_any_by : Word → Parser (Option (List ℕ))
-  name_if_any_by (a_name bytes) = eat >> pure (Some bytes)
-  name_if_any_by _ = pure None
+  abbrev pub name_if_any_by : At → Word → Parser (Option Identifier)
+  name_if_any_by at (a_name bytes) = eat >> pure (Some (record { at = at; bytes = bytes }))
+  name_if_any_by at _ = pure None
 
-  unfoldable pub name_if_any : Parser (Option (List ℕ))
-  name_if_any = λ n ts. name_if_any_by (word_at ts) n ts
+  unfoldable pub name_if_any : Parser (Option Identifier)
+  name_if_any = λ n ts. name_if_any_by (place_at ts) (word_at ts) n ts
 
   -- behind an item of a list: whether a comma stands there, and not the list's end
   unfoldable pub more : Sign → Parser Bool

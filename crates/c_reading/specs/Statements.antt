@@ -8,6 +8,7 @@ use Rattle.c_tree.specs.declared.syntax.Start.TheVariants as start_
 use Rattle.c_tree.specs.declared.syntax.Statement.{Statement}
 use Rattle.c_tree.specs.declared.syntax.Statement.TheVariants as statement_
 use Rattle.c_tree.specs.declared.syntax.External.{External}
+use Rattle.c_tree.specs.declared.syntax.Syntax.{Syntax}
 use Rattle.c_tree.specs.declared.syntax.External.TheVariants as external_
 use Rattle.c_grammar.specs.declared.sign.Sign.{Sign}
 use Rattle.c_grammar.specs.declared.sign.Sign.TheVariants as sign
@@ -250,14 +251,15 @@ module _ (T : ℕ → Bool) where
     s ← peek
     external_by d at s
 
-  -- the parts of a program behind those that were read, up to the end
-  unfoldable pub parts : ℕ → List External → Parser (List External)
+  -- the program, whose parts up to here were read
+  unfoldable pub parts : ℕ → List External → Parser Syntax
   parts zero xs = out
   parts (suc d) xs = do
+    at ← place
     s ← peek
-    if same s sign.End then pure xs else (do
+    if same s sign.End then pure (record { parts = xs; end = at }) else (do
       x ← external d
       parts d (xs ++ x ∷ []))
 
-  abbrev pub program : ℕ → List Lexeme → Read (List External)
+  abbrev pub program : ℕ → List Lexeme → Read Syntax
   program d ts = parts d [] 0 ts

@@ -13,7 +13,8 @@ use crate::fault::Fault;
 use crate::tokens::{eat, expect, more, name, name_if_any, peek, place};
 use c_grammar::Sign;
 use c_tree::syntax::{
-    Declaration, Expr, Initialiser, Item, Parameter, Parameters, Return, Size, TypeWords,
+    Declaration, Expr, Identifier, Initialiser, Item, Parameter, Parameters, Return, Size,
+    TypeWords,
 };
 use c_tree::{At, Token};
 use sqlite_items::Items;
@@ -23,7 +24,7 @@ use std::alloc::Global;
 #[derive(Drop)]
 pub enum Opening {
     Objects(Declaration),
-    Function(At, Return, Items<u8>, Parameters),
+    Function(At, Return, Identifier, Parameters),
 }
 
 /// What stands behind an opening bracket.
@@ -97,11 +98,12 @@ fn next_value(
 fn values(
     alloc: Global,
     mut depth: usize,
+    at: At,
     nesting: u32,
     tokens: &[Token],
 ) -> Result<(Initialiser, &[Token]), Fault>
     requires { nesting ≤ 200 }
-    ensures reads { ReadsAt nesting (spec.values shallow depth [] nesting (lexemes tokens.now)) result }
+    ensures reads { ReadsAt nesting (spec.values shallow depth at [] nesting (lexemes tokens.now)) result }
 {
     let mut values = Items::new(alloc);
     let mut rest = tokens;
@@ -110,7 +112,7 @@ fn values(
         let ((e, end), behind) = next_value(alloc, depth, nesting, rest)?;
         values.push(e)?;
         if let Some(comma) = end {
-            return Ok((Initialiser::List(values, comma), behind));
+            return Ok((Initialiser::List(at, values, comma), behind));
         }
         rest = behind;
     }
@@ -130,8 +132,9 @@ fn value(
 {
     match peek(tokens) {
         Sign::LeftBrace => {
+            let at = place(tokens);
             let tokens = eat(nesting, tokens)?;
-            values(alloc, depth, nesting, tokens)
+            values(alloc, depth, at, nesting, tokens)
         }
         _ => {
             let (e, tokens) = assignment(alloc, depth, nesting, tokens)?;
@@ -163,18 +166,16 @@ fn initialiser(
 fn object(
     alloc: Global,
     depth: usize,
-    at: At,
-    name: Items<u8>,
+    name: Identifier,
     nesting: u32,
     tokens: &[Token],
 ) -> Result<(Item, &[Token]), Fault>
     requires { nesting ≤ 200 }
-    ensures reads { ReadsAt nesting (spec.object shallow depth at name nesting (lexemes tokens.now)) result }
+    ensures reads { ReadsAt nesting (spec.object shallow depth name nesting (lexemes tokens.now)) result }
 {
     let (size, tokens) = size(alloc, depth, nesting, tokens)?;
     let (initialiser, tokens) = initialiser(alloc, depth, nesting, tokens)?;
     let item = Item {
-        at,
         name,
         size,
         initialiser,
@@ -187,15 +188,14 @@ fn object(
 fn next_object(
     alloc: Global,
     depth: usize,
-    at: At,
-    name: Items<u8>,
+    name: Identifier,
     nesting: u32,
     tokens: &[Token],
 ) -> Result<((Item, bool), &[Token]), Fault>
     requires { nesting ≤ 200 }
-    ensures reads { ReadsAt nesting (spec.next_object shallow depth at name nesting (lexemes tokens.now)) result }
+    ensures reads { ReadsAt nesting (spec.next_object shallow depth name nesting (lexemes tokens.now)) result }
 {
-    let (item, tokens) = object(alloc, depth, at, name, nesting, tokens)?;
+    let (item, tokens) = object(alloc, depth, name, nesting, tokens)?;
     let (goes_on, tokens) = more(Sign::Semicolon, nesting, tokens)?;
     Ok(((item, goes_on), tokens))
 }
@@ -209,9 +209,8 @@ fn next_item(
 ) -> Result<((Item, bool), &[Token]), Fault>
     ensures reads { ReadsAt nesting (spec.next_item shallow depth nesting (lexemes tokens.now)) result }
 {
-    let at = place(tokens);
     let (name, tokens) = name(alloc, nesting, tokens)?;
-    next_object(alloc, depth, at, name, nesting, tokens)
+    next_object(alloc, depth, name, nesting, tokens)
 }
 
 /// The objects behind those that were read, up to the semicolon.
@@ -243,15 +242,14 @@ fn items_behind(
 fn objects(
     alloc: Global,
     depth: usize,
-    at: At,
-    name: Items<u8>,
+    name: Identifier,
     nesting: u32,
     tokens: &[Token],
 ) -> Result<(Items<Item>, &[Token]), Fault>
     requires { nesting ≤ 200 }
-    ensures reads { ReadsAt nesting (spec.objects shallow depth at name nesting (lexemes tokens.now)) result }
+    ensures reads { ReadsAt nesting (spec.objects shallow depth name nesting (lexemes tokens.now)) result }
 {
-    let ((first, goes_on), tokens) = next_object(alloc, depth, at, name, nesting, tokens)?;
+    let ((first, goes_on), tokens) = next_object(alloc, depth, name, nesting, tokens)?;
     let mut items = Items::new(alloc);
     items.push(first)?;
     if goes_on {
@@ -335,7 +333,7 @@ fn heading(
     depth: usize,
     at: At,
     gives: Return,
-    name: Items<u8>,
+    name: Identifier,
     nesting: u32,
     tokens: &[Token],
 ) -> Result<(Opening, &[Token]), Fault>
@@ -358,7 +356,6 @@ fn typed_opening(
 ) -> Result<(Opening, &[Token]), Fault>
     ensures reads { ReadsAt nesting (spec.typed_opening shallow depth at words nesting (lexemes tokens.now)) result }
 {
-    let first = place(tokens);
     let (name, tokens) = name(alloc, nesting, tokens)?;
     if peek(tokens) == Sign::LeftParen {
         return heading(
@@ -371,7 +368,7 @@ fn typed_opening(
             tokens,
         );
     }
-    let (items, tokens) = objects(alloc, depth, first, name, nesting, tokens)?;
+    let (items, tokens) = objects(alloc, depth, name, nesting, tokens)?;
     Ok((
         Opening::Objects(Declaration::Objects(at, words, items)),
         tokens,

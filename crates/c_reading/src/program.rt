@@ -11,7 +11,7 @@ use crate::statements::block;
 use crate::tokens::{eat, expect, peek, place};
 use c_grammar::Sign;
 use c_tree::Token;
-use c_tree::syntax::{Declaration, External};
+use c_tree::syntax::{Declaration, External, Syntax};
 use sqlite_items::Items;
 use std::alloc::Global;
 
@@ -71,14 +71,14 @@ fn external(
     }
 }
 
-/// The parts of a program, and the tokens from the end on.
+/// The program, and the tokens from the end on.
 #[tactic(auto, unfolding(crate::specs::Statements::parts))]
 pub fn parts(
     alloc: Global,
     mut depth: usize,
     nesting: u32,
     tokens: &[Token],
-) -> Result<(Items<External>, &[Token]), Fault>
+) -> Result<(Syntax, &[Token]), Fault>
     requires { nesting ≤ 200 }
     ensures reads { ReadsAt nesting (spec.parts shallow depth [] nesting (lexemes tokens.now)) result }
 {
@@ -87,7 +87,8 @@ pub fn parts(
     while depth > 0 {
         depth -= 1;
         if peek(rest) == Sign::End {
-            return Ok((parts, rest));
+            let end = place(rest);
+            return Ok((Syntax { parts, end }, rest));
         }
         let (part, behind) = external(alloc, depth, nesting, rest)?;
         parts.push(part)?;
@@ -96,13 +97,13 @@ pub fn parts(
     Err(Fault::Out)
 }
 
-/// The parts of a program. The tokens end with the end of the text, which stands nowhere else.
-pub fn read(alloc: Global, tokens: &[Token]) -> Result<Items<External>, Fault>
+/// The tree of a program. The tokens end with the end of the text, which stands nowhere else.
+pub fn read(alloc: Global, tokens: &[Token]) -> Result<Syntax, Fault>
     ensures reads { Answers (spec.program shallow (8 * length tokens.now + 16) (lexemes tokens.now)) result }
     ensures ends { NotOut result }
 {
     match parts(alloc, 8 * tokens.len() + 16, 0, tokens) {
-        Ok((parts, _)) => Ok(parts),
+        Ok((tree, _)) => Ok(tree),
         Err(fault) => Err(fault),
     }
 }

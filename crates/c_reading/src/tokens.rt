@@ -8,6 +8,7 @@ ghost use Rattle.c_reading.specs.declared.fault.Fault.TheVariants as fault;
 
 use crate::fault::Fault;
 use c_grammar::{Sign, sign_of};
+use c_tree::syntax::Identifier;
 use c_tree::{At, Token, TokenKind};
 use sqlite_items::Items;
 use std::alloc::Global;
@@ -71,8 +72,8 @@ pub fn expect(sign: Sign, nesting: u32, tokens: &[Token]) -> Result<&[Token], Fa
     }
 }
 
-#[tactic(auto, unfolding(crate::specs::Parsers::name, crate::specs::Parsers::word_at))]
-pub fn name(alloc: Global, nesting: u32, tokens: &[Token]) -> Result<(Items<u8>, &[Token]), Fault>
+#[tactic(auto, unfolding(crate::specs::Parsers::name, crate::specs::Parsers::word_at, crate::specs::Parsers::place_at))]
+pub fn name(alloc: Global, nesting: u32, tokens: &[Token]) -> Result<(Identifier, &[Token]), Fault>
     ensures reads { ReadsAt nesting (spec.name shallow nesting (lexemes tokens.now)) result }
     ensures few { IfOk result (λ _. nesting ≤ 200) }
 {
@@ -80,36 +81,37 @@ pub fn name(alloc: Global, nesting: u32, tokens: &[Token]) -> Result<(Items<u8>,
         [
             Token {
                 kind: TokenKind::Name(name),
-                ..
+                at,
             },
             ..
         ] => {
             let rest = eat(nesting, tokens)?;
-            Ok((Items::from_slice(alloc, name.as_slice())?, rest))
+            let bytes = Items::from_slice(alloc, name.as_slice())?;
+            Ok((Identifier { at: *at, bytes }, rest))
         }
         _ => Err(wrong(tokens)),
     }
 }
 
-#[tactic(auto, unfolding(crate::specs::Parsers::name_if_any, crate::specs::Parsers::word_at))]
+#[tactic(auto, unfolding(crate::specs::Parsers::name_if_any, crate::specs::Parsers::word_at, crate::specs::Parsers::place_at))]
 pub fn name_if_any(
     alloc: Global,
     nesting: u32,
     tokens: &[Token],
-) -> Result<(Option<Items<u8>>, &[Token]), Fault>
+) -> Result<(Option<Identifier>, &[Token]), Fault>
     ensures { ReadsAt nesting (spec.name_if_any shallow nesting (lexemes tokens.now)) result }
 {
     match tokens {
         [
             Token {
                 kind: TokenKind::Name(name),
-                ..
+                at,
             },
             ..
         ] => {
             let rest = eat(nesting, tokens)?;
-            let name = Items::from_slice(alloc, name.as_slice())?;
-            Ok((Some(name), rest))
+            let bytes = Items::from_slice(alloc, name.as_slice())?;
+            Ok((Some(Identifier { at: *at, bytes }), rest))
         }
         _ => Ok((None, tokens)),
     }

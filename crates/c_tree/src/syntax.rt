@@ -114,15 +114,21 @@ pub enum Size {
 pub enum Initialiser {
     Absent,
     Value(Expr),
-    /// The values in braces, and whether a comma stands behind the last one.
-    List(Items<Expr>, bool),
+    /// The place of the brace, the values in braces, and whether a comma stands behind the last one.
+    List(At, Items<Expr>, bool),
 }
 
-/// A declared name.
+/// A name where it is declared (C11 6.4.2).
+#[derive(Drop)]
+pub struct Identifier {
+    pub at: At,
+    pub bytes: Items<u8>,
+}
+
+/// An object of a declaration, which begins with its name.
 #[derive(Drop)]
 pub struct Item {
-    pub at: At,
-    pub name: Items<u8>,
+    pub name: Identifier,
     pub size: Size,
     pub initialiser: Initialiser,
 }
@@ -138,7 +144,7 @@ pub enum Return {
 pub struct Parameter {
     pub at: At,
     pub words: TypeWords,
-    pub name: Option<Items<u8>>,
+    pub name: Option<Identifier>,
 }
 
 #[derive(Drop)]
@@ -153,7 +159,7 @@ pub enum Parameters {
 #[derive(Drop)]
 pub enum Declaration {
     Objects(At, TypeWords, Items<Item>),
-    Function(At, Return, Items<u8>, Parameters),
+    Function(At, Return, Identifier, Parameters),
 }
 
 /// What stands before the first semicolon of a `for`.
@@ -193,7 +199,7 @@ pub enum External {
     Defined {
         at: At,
         gives: Return,
-        name: Items<u8>,
+        name: Identifier,
         parameters: Parameters,
         body: Items<Statement>,
     },
@@ -203,4 +209,6 @@ pub enum External {
 #[derive(Drop)]
 pub struct Syntax {
     pub parts: Items<External>,
+    /// The end of the text, behind its last byte.
+    pub end: At,
 }

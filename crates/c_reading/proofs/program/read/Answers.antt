@@ -1,7 +1,7 @@
 -- The bound is enough.
 use Rattle.std.proofs.Common.{◌≡◌, ℕ, suc, ◌+◌, ◌*◌, List, length, subst, Err}
 use Rattle.std.proofs.lemmas.List.{length-map}
-use Rattle.c_tree.specs.declared.syntax.External.{External}
+use Rattle.c_tree.specs.declared.syntax.Syntax.{Syntax}
 use Rattle.c_grammar.specs.Words.{lexemes}
 use Rattle.c_reading.specs.declared.fault.Fault.{Fault}
 use Rattle.c_reading.specs.declared.fault.Fault.TheVariants as fault
@@ -19,4 +19,4 @@ not_out B b r s (fault.Deep n) h = tt
 not_out B b r s fault.Out h = subst (Sure b) h s
 
 pub returns-in-Err-clause-ends : goal.returns-in-Err-clause-ends
-returns-in-Err-clause-ends c = not_out (List External) _ _ (subst (λ n. Sure (suc (length (lexemes c.args.tokens.now))) (program shallow (8 * n + 16) (lexemes c.args.tokens.now))) (length-map c.args.tokens.now _) (program_sure shallow (lexemes c.args.tokens.now))) _ c.in-Err.ensures.reads
+returns-in-Err-clause-ends c = not_out Syntax _ _ (subst (λ n. Sure (suc (length (lexemes c.args.tokens.now))) (program shallow (8 * n + 16) (lexemes c.args.tokens.now))) (length-map c.args.tokens.now _) (program_sure shallow (lexemes c.args.tokens.now))) _ c.in-Err.ensures.reads

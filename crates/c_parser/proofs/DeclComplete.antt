@@ -9,6 +9,7 @@ use Rattle.c_tree.specs.declared.syntax.Size.{Size}
 use Rattle.c_tree.specs.declared.syntax.Size.TheVariants as size
 use Rattle.c_tree.specs.declared.syntax.Initialiser.{Initialiser}
 use Rattle.c_tree.specs.declared.syntax.Initialiser.TheVariants as initialiser
+use Rattle.c_tree.specs.declared.syntax.Identifier.{Identifier}
 use Rattle.c_tree.specs.declared.syntax.Item.{Item}
 use Rattle.c_tree.specs.declared.syntax.Return.{Return}
 use Rattle.c_tree.specs.declared.syntax.Return.TheVariants as gives
@@ -25,8 +26,8 @@ use Rattle.c_grammar.specs.Grammar.{about, type, assign, sized, initialised, las
 use Rattle.c_reading.specs.Parsers.{same}
 use Rattle.c_parser.proofs.Asked.{type_of, joined}
 use Rattle.c_parser.proofs.Machine as m
-use Rattle.c_parser.proofs.Machine.{State, operand, have, Use, step, run, Outcome, Next, goes, moved, hole, first, op_of, takes, close_use, offer, Home, Naming, Heading, home_nesting, conclude, item_named, item_sized, item_ended, item_next, item_end, item_of, value_after, parameters_first, parameter_typed, parameter_ended, parameter_next, header, declaring, either, expect}
-use Rattle.c_parser.proofs.Runs.{lex, head_sign, starts, Met, met_as, took, took_any, skip, alike, typed, Typing, type_at_leaves}
+use Rattle.c_parser.proofs.Machine.{State, operand, have, Use, step, run, Outcome, Next, goes, moved, hole, first, op_of, takes, close_use, offer, Home, Naming, Heading, home_nesting, conclude, item_named, item_sized, item_valued, item_ended, item_next, item_end, item_of, value_after, parameters_first, parameter_typed, parameter_ended, parameter_next, header, declaring, either, expect}
+use Rattle.c_parser.proofs.Runs.{lex, head_sign, starts, Met, met_as, took, skip, alike, typed, Typing, type_at_leaves}
 use Rattle.c_parser.proofs.ExprRuns.{not_sign, fit, binds, Follow, follow_none, follow_comma, heads}
 use Rattle.c_parser.proofs.ExprComplete.{complete}
 
@@ -74,25 +75,25 @@ module _ (T : ℕ → Bool) where
 
   -- ---- initialisers
 
-  values_run : (i : Naming) (z : Size) (done : List Expr) (e : Expr) (es : List Expr) (last : Bool) → all_fit (commas assign (map about (e ∷ es)) ++ (last_comma last ++ the_sign sign.RightBrace ∷ [])) ≡ true → (r : List Leaf) (ts : List Lexeme) (v : Outcome)
+  values_run : (i : Naming) (z : Size) (at : At) (done : List Expr) (e : Expr) (es : List Expr) (last : Bool) → all_fit (commas assign (map about (e ∷ es)) ++ (last_comma last ++ the_sign sign.RightBrace ∷ [])) ≡ true → (r : List Leaf) (ts : List Lexeme) (v : Outcome)
       → Met T ts (leaves_of (commas assign (map about (e ∷ es)) ++ (last_comma last ++ the_sign sign.RightBrace ∷ [])) (home_nesting i.home) r)
-      → ((vs : List Lexeme) → Met T vs r → run T vs (item_end i z (initialiser.List (done ++ e ∷ es) last)) ≡ v) → run T ts (operand [] (m.list_ i z done)) ≡ v
-  values_run i z done e [] false fits r ts w mt go =
+      → ((vs : List Lexeme) → Met T vs r → run T vs (item_end i z (initialiser.List at (done ++ e ∷ es) last)) ≡ v) → run T ts (operand [] (m.list_ i z at done)) ≡ v
+  values_run i z at done e [] false fits r ts w mt go =
       let p = fit 1 e _ fits in
-      (complete T e p.fits).all p.level [] (m.list_ i z done) p.level _ (follow_none _ _ refl) ts w mt
-      (λ xs mx. took T (have e [] (m.list_ i z done)) (item_end i z (initialiser.List (done ++ e ∷ []) false)) xs w (λ q st. refl) mx go)
-  values_run i z done e [] true fits r ts w mt go =
+      (complete T e p.fits).all p.level [] (m.list_ i z at done) p.level _ (follow_none _ _ refl) ts w mt
+      (λ xs mx. took T (have e [] (m.list_ i z at done)) (item_end i z (initialiser.List at (done ++ e ∷ []) false)) xs w (λ q st. refl) mx go)
+  values_run i z at done e [] true fits r ts w mt go =
       let p = fit 1 e _ fits in
-      (complete T e p.fits).all p.level [] (m.list_ i z done) p.level _ (follow_comma _ _ refl) ts w mt
-      (λ xs mx. took T (have e [] (m.list_ i z done)) (value_after i z (done ++ e ∷ [])) xs w (λ q st. refl) mx
-      (λ ys my. took T (value_after i z (done ++ e ∷ [])) (item_end i z (initialiser.List (done ++ e ∷ []) true)) ys w (λ q st. refl) my go))
-  values_run i z done e (f ∷ es) last fits r ts w mt go =
+      (complete T e p.fits).all p.level [] (m.list_ i z at done) p.level _ (follow_comma _ _ refl) ts w mt
+      (λ xs mx. took T (have e [] (m.list_ i z at done)) (value_after i z at (done ++ e ∷ [])) xs w (λ q st. refl) mx
+      (λ ys my. took T (value_after i z at (done ++ e ∷ [])) (item_end i z (initialiser.List at (done ++ e ∷ []) true)) ys w (λ q st. refl) my go))
+  values_run i z at done e (f ∷ es) last fits r ts w mt go =
       let p = fit 1 e _ fits in
-      (complete T e p.fits).all p.level [] (m.list_ i z done) p.level _ (follow_comma _ _ refl) ts w mt
-      (λ xs mx. took T (have e [] (m.list_ i z done)) (value_after i z (done ++ e ∷ [])) xs w (λ q st. refl) mx
-      (λ ys my. skip T (value_after i z (done ++ e ∷ [])) (operand [] (m.list_ i z (done ++ e ∷ []))) refl ys
-      (λ t st. ap (λ b. cond b (goes (home_nesting i.home) (item_end i z (initialiser.List (done ++ e ∷ []) true))) (step (operand [] (m.list_ i z (done ++ e ∷ []))) t)) (not_sign t.word sign.RightBrace st refl)) (value_head f es _ _ _) my
-      ∙ values_run i z (done ++ e ∷ []) f es last p.rest r ys w my (λ zs mz. ap (λ l. run T zs (item_end i z (initialiser.List l last))) (append_assoc done (e ∷ []) (f ∷ es)) ∙ go zs mz)))
+      (complete T e p.fits).all p.level [] (m.list_ i z at done) p.level _ (follow_comma _ _ refl) ts w mt
+      (λ xs mx. took T (have e [] (m.list_ i z at done)) (value_after i z at (done ++ e ∷ [])) xs w (λ q st. refl) mx
+      (λ ys my. skip T (value_after i z at (done ++ e ∷ [])) (operand [] (m.list_ i z at (done ++ e ∷ []))) refl ys
+      (λ t st. ap (λ b. cond b (goes (home_nesting i.home) (item_end i z (initialiser.List at (done ++ e ∷ []) true))) (step (operand [] (m.list_ i z at (done ++ e ∷ []))) t)) (not_sign t.word sign.RightBrace st refl)) (value_head f es _ _ _) my
+      ∙ values_run i z at (done ++ e ∷ []) f es last p.rest r ys w my (λ zs mz. ap (λ l. run T zs (item_end i z (initialiser.List at l last))) (append_assoc done (e ∷ []) (f ∷ es)) ∙ go zs mz)))
     where
       value_head : (e : Expr) (es : List Expr) (ps : List Part) (n : ℕ) (r : List Leaf) → starts (head_sign (leaves_of (commas assign (map about (e ∷ es)) ++ ps) n r)) ≡ true
       value_head e [] ps n r = heads e _ _
@@ -112,37 +113,34 @@ module _ (T : ℕ → Bool) where
   ends_binds r (by_comma h) l = follow_comma l r (ap binds h)
   ends_binds r (by_close h) l = follow_none l r (ap binds h)
 
-  abbrev begun_value : Naming → Size → State
-  begun_value i z = either sign.LeftBrace (home_nesting i.home) (operand [] (m.list_ i z [])) (operand [] (m.value_ i z))
-
   initials : (i : Naming) (z : Size) (x : Initialiser) → all_fit (initialised x) ≡ true → (r : List Leaf) → Ends sign.Semicolon r → (ts : List Lexeme) (v : Outcome) → Met T ts (leaves_of (initialised x) (home_nesting i.home) r)
       → ((vs : List Lexeme) → Met T vs r → run T vs (item_end i z x) ≡ v) → run T ts (item_sized i z) ≡ v
   initials i z initialiser.Absent fits r (by_comma h) ts w mt go = alike T (item_sized i z) (item_end i z initialiser.Absent) ts r refl (λ t st. subst (λ s. m.on_sized i z s ≡ m.on_item_end i z initialiser.Absent s) (sym (st ∙ h)) refl) mt ∙ go ts mt
   initials i z initialiser.Absent fits r (by_close h) ts w mt go = alike T (item_sized i z) (item_end i z initialiser.Absent) ts r refl (λ t st. subst (λ s. m.on_sized i z s ≡ m.on_item_end i z initialiser.Absent s) (sym (st ∙ h)) refl) mt ∙ go ts mt
   initials i z (initialiser.Value e) fits r ends ts w mt go =
       let p = fit 1 e true fits in
-      took T (item_sized i z) (begun_value i z) ts w (λ q st. refl) mt
-      (λ vs mv. skip T (begun_value i z) (operand [] (m.value_ i z)) refl vs
-      (λ t st. ap (λ b. cond b (goes (home_nesting i.home) (operand [] (m.list_ i z []))) (step (operand [] (m.value_ i z)) t)) (not_sign t.word sign.LeftBrace st refl)) (heads e _ _) mv
+      took T (item_sized i z) (item_valued i z) ts w (λ q st. refl) mt
+      (λ vs mv. skip T (item_valued i z) (operand [] (m.value_ i z)) refl vs
+      (λ t st. ap (λ b. cond b (goes (home_nesting i.home) (operand [] (m.list_ i z t.at []))) (step (operand [] (m.value_ i z)) t)) (not_sign t.word sign.LeftBrace st refl)) (heads e _ _) mv
       ∙ (complete T e p.fits).all p.level [] (m.value_ i z) p.level r (ends_binds r ends _) vs w mv
       (λ xs mx. ended_value i z e r xs ends mx ∙ go xs mx))
-  initials i z (initialiser.List [] last) fits r ends ts w mt go = absurd cc
-  initials i z (initialiser.List (e ∷ es) last) fits r ends ts w mt go =
-      took T (item_sized i z) (begun_value i z) ts w (λ q st. refl) mt
-      (λ vs mv. took T (begun_value i z) (operand [] (m.list_ i z [])) vs w (λ q st. refl) mv
-      (λ xs mx. values_run i z [] e es last fits r xs w mx go))
+  initials i z (initialiser.List at [] last) fits r ends ts w mt go = absurd cc
+  initials i z (initialiser.List at (e ∷ es) last) fits r ends ts w mt go =
+      took T (item_sized i z) (item_valued i z) ts w (λ q st. refl) mt
+      (λ vs mv. took T (item_valued i z) (operand [] (m.list_ i z at [])) vs w (λ q st. ap (λ p. goes (home_nesting i.home) (operand [] (m.list_ i z p []))) (sym st)) mv
+      (λ xs mx. values_run i z at [] e es last fits r xs w mx go))
 
   -- ---- objects
 
   abbrev naming : At → TypeWords → List Item → Home → Item → Naming
-  naming at t is h i = record { at = at; words = t; done = is; home = h; item_at = i.at; name = i.name }
+  naming at t is h i = record { at = at; words = t; done = is; home = h; name = i.name }
 
   initial_head : (x : Initialiser) (r : List Leaf) (n : ℕ) → Ends sign.Semicolon r → same (head_sign (leaves_of (initialised x) n r)) sign.LeftBracket ≡ false
   initial_head initialiser.Absent r n (by_comma h) = ap (λ s. same s sign.LeftBracket) h
   initial_head initialiser.Absent r n (by_close h) = ap (λ s. same s sign.LeftBracket) h
   initial_head (initialiser.Value e) r n ends = refl
-  initial_head (initialiser.List [] last) r n ends = refl
-  initial_head (initialiser.List (e ∷ es) last) r n ends = refl
+  initial_head (initialiser.List at [] last) r n ends = refl
+  initial_head (initialiser.List at (e ∷ es) last) r n ends = refl
 
   object_run : (k : Naming) (z : Size) (x : Initialiser) → all_fit (sized z ++ initialised x) ≡ true → (r : List Leaf) → Ends sign.Semicolon r → (ts : List Lexeme) (v : Outcome) → Met T ts (leaves_of (sized z ++ initialised x) (home_nesting k.home) r)
       → ((vs : List Lexeme) → Met T vs r → run T vs (item_end k z x) ≡ v) → run T ts (item_named k) ≡ v
@@ -158,7 +156,7 @@ module _ (T : ℕ → Bool) where
   first_fits j (l ∷ is) h = (and_parts (declarator j).fits _ h).0
 
   objects_run : (at : At) (t : TypeWords) (done : List Item) (h : Home) (i : Item) (is : List Item) → all_fit (commas piece (map declarator (i ∷ is)) ++ the_sign sign.Semicolon ∷ []) ≡ true → (r : List Leaf) (ts : List Lexeme) (v : Outcome) (s : State)
-      → ((vs : List Lexeme) (ps : List Part) → Met T vs (leaf (a_name i.name) (Some i.at) (home_nesting h) ∷ leaves_of (sized i.size ++ initialised i.initialiser) (home_nesting h) (leaves_of ps (home_nesting h) r)) → Ends sign.Semicolon (leaves_of ps (home_nesting h) r)
+      → ((vs : List Lexeme) (ps : List Part) → Met T vs (leaf (a_name i.name.bytes) (Some i.name.at) (home_nesting h) ∷ leaves_of (sized i.size ++ initialised i.initialiser) (home_nesting h) (leaves_of ps (home_nesting h) r)) → Ends sign.Semicolon (leaves_of ps (home_nesting h) r)
       → ((xs : List Lexeme) → Met T xs (leaves_of ps (home_nesting h) r) → run T xs (item_end (naming at t done h i) i.size i.initialiser) ≡ v) → run T vs s ≡ v)
       → Met T ts (leaves_of (commas piece (map declarator (i ∷ is)) ++ the_sign sign.Semicolon ∷ []) (home_nesting h) r)
       → ((vs : List Lexeme) → Met T vs r → run T vs (conclude h (declaration.Objects at t (done ++ i ∷ is))) ≡ v) → run T ts s ≡ v
@@ -169,7 +167,7 @@ module _ (T : ℕ → Bool) where
       enter ts (the_sign sign.Comma ∷ (commas piece (map declarator (j ∷ is)) ++ the_sign sign.Semicolon ∷ [])) mt (by_comma refl)
       (λ xs mx. took T (item_end (naming at t done h i) i.size i.initialiser) (item_next at t (done ++ i ∷ []) h) xs w (λ q st. refl) mx
       (λ ys my. objects_run at t (done ++ i ∷ []) h j is more r ys w (item_next at t (done ++ i ∷ []) h)
-      (λ vs ps mv ends k. took T (item_next at t (done ++ i ∷ []) h) (item_named (naming at t (done ++ i ∷ []) h j)) vs w (λ q st. ap (λ z. goes (home_nesting h) (item_named (record { at = at; words = t; done = done ++ i ∷ []; home = h; item_at = z; name = j.name }))) (sym st)) mv
+      (λ vs ps mv ends k. took T (item_next at t (done ++ i ∷ []) h) (item_named (naming at t (done ++ i ∷ []) h j)) vs w (λ q st. ap (λ z. goes (home_nesting h) (item_named (record { at = at; words = t; done = done ++ i ∷ []; home = h; name = m.identifier z j.name.bytes }))) (sym st)) mv
       (λ zs mz. object_run (naming at t (done ++ i ∷ []) h j) j.size j.initialiser (first_fits j is more) _ ends zs w mz k)) my
       (λ zs mz. ap (λ l. run T zs (conclude h (declaration.Objects at t l))) (append_assoc done (i ∷ []) (j ∷ is)) ∙ go zs mz)))
 
@@ -194,8 +192,8 @@ module _ (T : ℕ → Bool) where
   }
 
   -- the name behind a type
-  first_name : (at : At) (t : TypeWords) (h : Home) (p : At) (n : List ℕ) → step (declaring at (gives.Value t) h) (lex (a_name n) p) ≡ Some (home_nesting h, m.declared at (gives.Value t) p n h)
-  first_name at t h p n = ap (λ y. m.on_declaring p at (gives.Value t) (a_name n) y h) (joined_other t)
+  first_name : (at : At) (t : TypeWords) (h : Home) (n : Identifier) (p : At) → n.at ≡ p → step (declaring at (gives.Value t) h) (lex (a_name n.bytes) p) ≡ Some (home_nesting h, m.declared at (gives.Value t) n h)
+  first_name at t h n p st = ap (λ y. m.on_declaring p at (gives.Value t) (a_name n.bytes) y h) (joined_other t) ∙ ap (λ z. goes (home_nesting h) (m.declared at (gives.Value t) (m.identifier z n.bytes) h)) (sym st)
 
   objects_head : (z : Size) (x : Initialiser) (r : List Leaf) (n : ℕ) → Ends sign.Semicolon r → same (head_sign (leaves_of (sized z ++ initialised x) n r)) sign.LeftParen ≡ false
   objects_head size.Absent x r n e = refl
@@ -203,35 +201,35 @@ module _ (T : ℕ → Bool) where
   objects_head size.Scalar initialiser.Absent r n (by_comma h) = ap (λ s. same s sign.LeftParen) h
   objects_head size.Scalar initialiser.Absent r n (by_close h) = ap (λ s. same s sign.LeftParen) h
   objects_head size.Scalar (initialiser.Value e) r n ends = refl
-  objects_head size.Scalar (initialiser.List [] last) r n ends = refl
-  objects_head size.Scalar (initialiser.List (e ∷ es) last) r n ends = refl
+  objects_head size.Scalar (initialiser.List at [] last) r n ends = refl
+  objects_head size.Scalar (initialiser.List at (e ∷ es) last) r n ends = refl
 
-  no_paren : (at : At) (t : TypeWords) (p : At) (n : List ℕ) (h : Home) (s : Sign) → same s sign.LeftParen ≡ false → m.on_declared at (gives.Value t) p n h s ≡ m.on_named (record { at = at; words = t; done = []; home = h; item_at = p; name = n }) s
-  no_paren at t p n h sign.LeftParen e = absurd cc
-  no_paren at t p n h s e = refl
+  no_paren : (at : At) (t : TypeWords) (n : Identifier) (h : Home) (s : Sign) → same s sign.LeftParen ≡ false → m.on_declared at (gives.Value t) n h s ≡ m.on_named (record { at = at; words = t; done = []; home = h; name = n }) s
+  no_paren at t n h sign.LeftParen e = absurd cc
+  no_paren at t n h s e = refl
 
   -- ---- parameters
 
-  abbrev parameter_of : At → TypeWords → Option (List ℕ) → Parameter
+  abbrev parameter_of : At → TypeWords → Option Identifier → Parameter
   parameter_of at t n = record { at = at; words = t; name = n }
 
-  named_parameter : (k : Heading) (done : List Parameter) (at : At) (t : TypeWords) (n : Option (List ℕ)) (r : List Leaf) → Ends sign.RightParen r → (ts : List Lexeme) (v : Outcome) → Met T ts (leaves_of (maybe_name n) (home_nesting k.home) r)
+  named_parameter : (k : Heading) (done : List Parameter) (at : At) (t : TypeWords) (n : Option Identifier) (r : List Leaf) → Ends sign.RightParen r → (ts : List Lexeme) (v : Outcome) → Met T ts (leaves_of (maybe_name n) (home_nesting k.home) r)
       → ((vs : List Lexeme) → Met T vs r → run T vs (parameter_ended k (done ++ parameter_of at t n ∷ [])) ≡ v) → run T ts (parameter_typed k done at t) ≡ v
-  named_parameter k done at t (Some n) r ends ts w mt go = took T (parameter_typed k done at t) (parameter_ended k (done ++ parameter_of at t (Some n) ∷ [])) ts w (λ q st. ap (λ y. m.on_typed (a_name n) y k done at t) (joined_other t)) mt go
-  named_parameter k done at t None r ends ts w mt go = alike T (parameter_typed k done at t) (parameter_ended k (done ++ parameter_of at t None ∷ [])) ts r refl (λ l st. unnamed l.word ends st) mt ∙ go ts mt
+  named_parameter k done at t (Some n) r ends ts w mt go = took T (parameter_typed k done at t) (parameter_ended k (done ++ parameter_of at t (Some n) ∷ [])) ts w (λ q st. ap (λ y. m.on_typed q (a_name n.bytes) y k done at t) (joined_other t) ∙ ap (λ z. goes (home_nesting k.home) (parameter_ended k (done ++ parameter_of at t (Some (m.identifier z n.bytes)) ∷ []))) (sym st)) mt go
+  named_parameter k done at t None r ends ts w mt go = alike T (parameter_typed k done at t) (parameter_ended k (done ++ parameter_of at t None ∷ [])) ts r refl (λ l st. unnamed l.at l.word ends st) mt ∙ go ts mt
     where
-      at_sign : (x : Sign) (y : Word) → sign_of_word y ≡ x → joined t x ≡ None → (same x sign.Other ≡ false) → m.on_typed y (joined t (sign_of_word y)) k done at t ≡ m.on_parameter_end k (done ++ parameter_of at t None ∷ []) (sign_of_word y)
-      at_sign x (a_name n) is no_join other = absurd (no_true (sym other ∙ ap (λ s. same s sign.Other) (sym is)))
+      at_sign : (p : At) (x : Sign) (y : Word) → sign_of_word y ≡ x → joined t x ≡ None → (same x sign.Other ≡ false) → m.on_typed p y (joined t (sign_of_word y)) k done at t ≡ m.on_parameter_end k (done ++ parameter_of at t None ∷ []) (sign_of_word y)
+      at_sign p x (a_name n) is no_join other = absurd (no_true (sym other ∙ ap (λ s. same s sign.Other) (sym is)))
         where
           no_true : false ≡ true → ⊥
           no_true e = absurd cc
-      at_sign x (a_number v d u) is no_join other = ap (λ z. m.on_typed (a_number v d u) z k done at t) (joined_other t)
-      at_sign x (a_character v) is no_join other = ap (λ z. m.on_typed (a_character v) z k done at t) (joined_other t)
-      at_sign x (a_sign s) is no_join other = ap (λ z. m.on_typed (a_sign s) z k done at t) (ap (λ y. joined t y) is ∙ no_join)
+      at_sign p x (a_number v d u) is no_join other = ap (λ z. m.on_typed p (a_number v d u) z k done at t) (joined_other t)
+      at_sign p x (a_character v) is no_join other = ap (λ z. m.on_typed p (a_character v) z k done at t) (joined_other t)
+      at_sign p x (a_sign s) is no_join other = ap (λ z. m.on_typed p (a_sign s) z k done at t) (ap (λ y. joined t y) is ∙ no_join)
 
-      unnamed : (y : Word) → Ends sign.RightParen r → sign_of_word y ≡ head_sign r → m.on_typed y (joined t (sign_of_word y)) k done at t ≡ m.on_parameter_end k (done ++ parameter_of at t None ∷ []) (sign_of_word y)
-      unnamed y (by_comma h) st = at_sign sign.Comma y (st ∙ h) (joined_comma t) refl
-      unnamed y (by_close h) st = at_sign sign.RightParen y (st ∙ h) (joined_close t) refl
+      unnamed : (p : At) (y : Word) → Ends sign.RightParen r → sign_of_word y ≡ head_sign r → m.on_typed p y (joined t (sign_of_word y)) k done at t ≡ m.on_parameter_end k (done ++ parameter_of at t None ∷ []) (sign_of_word y)
+      unnamed p y (by_comma h) st = at_sign p sign.Comma y (st ∙ h) (joined_comma t) refl
+      unnamed p y (by_close h) st = at_sign p sign.RightParen y (st ∙ h) (joined_close t) refl
 
   abbrev listing : List Parameter → List Part → List Part
   listing ps more = commas piece (map parameter ps) ++ the_sign sign.RightParen ∷ more
@@ -254,7 +252,7 @@ module _ (T : ℕ → Bool) where
       next : (q : Parameter) → Typing T (Some q.at) (parameter_next k (done ++ p ∷ [])) (λ t. parameter_typed k (done ++ p ∷ []) q.at t) (home_nesting k.home)
       next q = record {
         begins = λ x t is z st. ap (λ o. m.on_parameter z o k (done ++ p ∷ [])) is ∙ ap (λ o. goes (home_nesting k.home) (parameter_typed k (done ++ p ∷ []) o t)) (sym st);
-        extends = λ t x t2 is z. ap (λ o. m.on_typed (a_sign x) o k (done ++ p ∷ []) q.at t) is;
+        extends = λ t x t2 is z. ap (λ o. m.on_typed z (a_sign x) o k (done ++ p ∷ []) q.at t) is;
       }
 
   listed_run : (k : Heading) (ps : Parameters) (more : List Part) → all_fit (listed ps ++ the_sign sign.RightParen ∷ more) ≡ true → (r : List Leaf) (ts : List Lexeme) (v : Outcome)
@@ -276,30 +274,30 @@ module _ (T : ℕ → Bool) where
       first_typing : Typing T (Some p.at) (parameters_first k) (λ t. parameter_typed k [] p.at t) (home_nesting k.home)
       first_typing = record {
         begins = λ x t is z st. first_type z x t is ∙ ap (λ o. goes (home_nesting k.home) (parameter_typed k [] o t)) (sym st);
-        extends = λ t x t2 is z. ap (λ o. m.on_typed (a_sign x) o k [] p.at t) is;
+        extends = λ t x t2 is z. ap (λ o. m.on_typed z (a_sign x) o k [] p.at t) is;
       }
 
   -- ---- declarations
 
-  abbrev heading : At → Return → List ℕ → Home → Heading
+  abbrev heading : At → Return → Identifier → Home → Heading
   heading at g n h = record { at = at; gives = g; name = n; home = h }
 
-  called_fits : (n : List ℕ) (ps : Parameters) (more : List Part) → all_fit (called n ps more) ≡ true → all_fit (listed ps ++ the_sign sign.RightParen ∷ more) ≡ true
+  called_fits : (n : Identifier) (ps : Parameters) (more : List Part) → all_fit (called n ps more) ≡ true → all_fit (listed ps ++ the_sign sign.RightParen ∷ more) ≡ true
   called_fits n ps more h = h
 
   -- up to the closing parenthesis of a function's parameters
-  pub heading_run : (at : At) (g : Return) (n : List ℕ) (ps : Parameters) (more : List Part) (h : Home) (s : State) → Opens s h → all_fit (returned g ++ called n ps more) ≡ true → (r : List Leaf) (ts : List Lexeme) (v : Outcome)
+  pub heading_run : (at : At) (g : Return) (n : Identifier) (ps : Parameters) (more : List Part) (h : Home) (s : State) → Opens s h → all_fit (returned g ++ called n ps more) ≡ true → (r : List Leaf) (ts : List Lexeme) (v : Outcome)
       → Met T ts (leaves_at at (returned g ++ called n ps more) (home_nesting h) r)
       → ((vs : List Lexeme) → Met T vs (leaves_of more (home_nesting h) r) → run T vs (header (heading at g n h) ps) ≡ v) → run T ts s ≡ v
   heading_run at gives.Void n ps more h s o fits r ts w mt go =
       took T s (declaring at gives.Void h) ts w (λ q st. o.with_void q ∙ ap (λ z. goes (home_nesting h) (declaring z gives.Void h)) (sym st)) mt
-      (λ vs mv. took_any T (declaring at gives.Void h) (λ q. m.declared at gives.Void q n h) vs w (λ q. refl) mv
-      (λ q xs mx. took T (m.declared at gives.Void q n h) (parameters_first (heading at gives.Void n h)) xs w (λ z st. refl) mx
+      (λ vs mv. took T (declaring at gives.Void h) (m.declared at gives.Void n h) vs w (λ q st. ap (λ z. goes (home_nesting h) (m.declared at gives.Void (m.identifier z n.bytes) h)) (sym st)) mv
+      (λ xs mx. took T (m.declared at gives.Void n h) (parameters_first (heading at gives.Void n h)) xs w (λ z st. refl) mx
       (λ ys my. listed_run (heading at gives.Void n h) ps more fits r ys w my go)))
   heading_run at (gives.Value t) n ps more h s o fits r ts w mt go =
       typed T (Some at) s (λ y. declaring at (gives.Value y) h) _ (typing at h s o) t _ ts w (met_as T ts _ _ (type_at_leaves T at t (called n ps more) _ _) mt)
-      (λ vs mv. took_any T (declaring at (gives.Value t) h) (λ q. m.declared at (gives.Value t) q n h) vs w (λ q. first_name at t h q n) mv
-      (λ q xs mx. took T (m.declared at (gives.Value t) q n h) (parameters_first (heading at (gives.Value t) n h)) xs w (λ z st. refl) mx
+      (λ vs mv. took T (declaring at (gives.Value t) h) (m.declared at (gives.Value t) n h) vs w (λ q st. first_name at t h n q st) mv
+      (λ xs mx. took T (m.declared at (gives.Value t) n h) (parameters_first (heading at (gives.Value t) n h)) xs w (λ z st. refl) mx
       (λ ys my. listed_run (heading at (gives.Value t) n h) ps more (type_fits t (called n ps more) fits) r ys w my go)))
 
   pub declaration_run : (d : Declaration) (h : Home) (s : State) → Opens s h → (declared d).fits ≡ true → (r : List Leaf) (ts : List Lexeme) (v : Outcome)
@@ -314,6 +312,6 @@ module _ (T : ℕ → Bool) where
   declaration_run (declaration.Objects at t (i ∷ is)) h s o fits r ts w mt go =
       typed T (Some at) s (λ y. declaring at (gives.Value y) h) _ (typing at h s o) t _ ts w (met_as T ts _ _ (type_at_leaves T at t _ _ _) mt)
       (λ vs mv. objects_run at t [] h i is (type_fits t _ (and_parts _ _ fits).1) r vs w (declaring at (gives.Value t) h)
-      (λ xs ps mx ends k. took T (declaring at (gives.Value t) h) (m.declared at (gives.Value t) i.at i.name h) xs w (λ q st. first_name at t h q i.name ∙ ap (λ z. goes (home_nesting h) (m.declared at (gives.Value t) z i.name h)) (sym st)) mx
-      (λ ys my. alike T (m.declared at (gives.Value t) i.at i.name h) (item_named (naming at t [] h i)) ys _ refl (λ l st. no_paren at t i.at i.name h (sign_of_word l.word) (ap (λ x. same x sign.LeftParen) st ∙ objects_head i.size i.initialiser _ _ ends)) my
+      (λ xs ps mx ends k. took T (declaring at (gives.Value t) h) (m.declared at (gives.Value t) i.name h) xs w (λ q st. first_name at t h i.name q st) mx
+      (λ ys my. alike T (m.declared at (gives.Value t) i.name h) (item_named (naming at t [] h i)) ys _ refl (λ l st. no_paren at t i.name h (sign_of_word l.word) (ap (λ x. same x sign.LeftParen) st ∙ objects_head i.size i.initialiser _ _ ends)) my
       ∙ object_run (naming at t [] h i) i.size i.initialiser (first_fits i is (type_fits t _ (and_parts _ _ fits).1)) _ ends ys w my k)) mv go)

@@ -56,7 +56,7 @@ use_low_hole : (u : Use) → use_low u ≡ true → use_hole u ≡ 0
 use_low_hole (m.case_ at us) h = absurd cc
 use_low_hole (m.size_ i) h = absurd cc
 use_low_hole (m.value_ i z) h = absurd cc
-use_low_hole (m.list_ i z es) h = absurd cc
+use_low_hole (m.list_ i z at es) h = absurd cc
 use_low_hole _ h = refl
 
 pub low_hole : (fs : List Frame) (u : Use) → low fs u ≡ true → hole fs u ≡ 0
@@ -70,7 +70,7 @@ use_hole_low : (u : Use) → use_hole u ≡ 0 → use_low u ≡ true
 use_hole_low (m.case_ at us) h = absurd (omega (arith, h))
 use_hole_low (m.size_ i) h = absurd (omega (arith, h))
 use_hole_low (m.value_ i z) h = absurd (omega (arith, h))
-use_hole_low (m.list_ i z es) h = absurd (omega (arith, h))
+use_hole_low (m.list_ i z at es) h = absurd (omega (arith, h))
 use_hole_low _ h = refl
 
 pub hole_low : (fs : List Frame) (u : Use) → hole fs u ≡ 0 → low fs u ≡ true

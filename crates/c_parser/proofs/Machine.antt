@@ -16,6 +16,7 @@ use Rattle.c_tree.specs.declared.syntax.Size.{Size}
 use Rattle.c_tree.specs.declared.syntax.Size.TheVariants as size
 use Rattle.c_tree.specs.declared.syntax.Initialiser.{Initialiser}
 use Rattle.c_tree.specs.declared.syntax.Initialiser.TheVariants as initialiser
+use Rattle.c_tree.specs.declared.syntax.Identifier.{Identifier}
 use Rattle.c_tree.specs.declared.syntax.Item.{Item}
 use Rattle.c_tree.specs.declared.syntax.Return.{Return}
 use Rattle.c_tree.specs.declared.syntax.Return.TheVariants as gives
@@ -30,6 +31,7 @@ use Rattle.c_tree.specs.declared.syntax.Statement.{Statement}
 use Rattle.c_tree.specs.declared.syntax.Statement.TheVariants as statement
 use Rattle.c_tree.specs.declared.syntax.External.{External}
 use Rattle.c_tree.specs.declared.syntax.External.TheVariants as external
+use Rattle.c_tree.specs.declared.syntax.Syntax.{Syntax}
 use Rattle.c_grammar.specs.declared.sign.Sign.{Sign}
 use Rattle.c_grammar.specs.declared.sign.Sign.TheVariants as sign
 use Rattle.c_grammar.specs.Words.{Word, a_name, a_number, a_character, a_sign, sign_of_word, Lexeme}
@@ -66,7 +68,7 @@ pub data Under : Type 0 where
   in_switch : At → Expr → List Statement → Under
   in_case : At → Expr → Under
   in_default : At → Under
-  in_body : List External → At → Return → List ℕ → Parameters → List Statement → Under
+  in_body : List External → At → Return → Identifier → Parameters → List Statement → Under
 
 -- where a declaration stands
 pub data Home : Type 0 where
@@ -80,14 +82,13 @@ pub record Naming : Type 0 where
   pub words : TypeWords
   pub done : List Item
   pub home : Home
-  pub item_at : At
-  pub name : List ℕ
+  pub name : Identifier
 
 -- a function whose parameters are being read
 pub record Heading : Type 0 where
   pub at : At
   pub gives : Return
-  pub name : List ℕ
+  pub name : Identifier
   pub home : Home
 
 -- what an expression is read for
@@ -99,7 +100,7 @@ pub data Use : Type 0 where
   next_ : At → Start → Option Expr → List Under → Use
   size_ : Naming → Use
   value_ : Naming → Size → Use
-  list_ : Naming → Size → List Expr → Use
+  list_ : Naming → Size → At → List Expr → Use
 
 pub data State : Type 0 where
   operand : List Frame → Use → State
@@ -114,15 +115,16 @@ pub data State : Type 0 where
   got : Statement → List Under → State
   for_first : At → List Under → State
   declaring : At → Return → Home → State
-  declared : At → Return → At → List ℕ → Home → State
+  declared : At → Return → Identifier → Home → State
   item_named : Naming → State
-  item_sized : Naming → Size → State
+  item_sized item_valued : Naming → Size → State
   item_ended item_next : At → TypeWords → List Item → Home → State
   parameters_first : Heading → State
   parameter_typed : Heading → List Parameter → At → TypeWords → State
   parameter_ended parameter_next : Heading → List Parameter → State
   header : Heading → Parameters → State
-  program finished : List External → State
+  program : List External → State
+  finished : Syntax → State
 
 -- ---- nesting
 
@@ -167,13 +169,13 @@ outer (test_ at s us) = start_behind (suc (inside us)) s
 outer (next_ at s t us) = maybe_behind (start_behind (suc (inside us)) s) t
 outer (size_ i) = home_nesting i.home
 outer (value_ i z) = home_nesting i.home
-outer (list_ i z es) = home_nesting i.home
+outer (list_ i z at es) = home_nesting i.home
 
 abbrev pub use_hole : Use → ℕ
 use_hole (case_ at us) = 2
 use_hole (size_ i) = 2
 use_hole (value_ i z) = 1
-use_hole (list_ i z es) = 1
+use_hole (list_ i z at es) = 1
 use_hole _ = 0
 
 -- the level that is wanted
@@ -341,7 +343,7 @@ conclude (at_block us) d = want (add (statement.Declared d) us)
 conclude (at_start at us) d = for_test at (start.Declared d) us
 
 abbrev pub item_of : Naming → Size → Initialiser → Item
-item_of i z v = record { at = i.item_at; name = i.name; size = z; initialiser = v }
+item_of i z v = record { name = i.name; size = z; initialiser = v }
 
 abbrev pub item_end : Naming → Size → Initialiser → State
 item_end i z v = item_ended i.at i.words (i.done ++ item_of i z v ∷ []) i.home
@@ -355,15 +357,15 @@ abbrev pub on_item_end : Naming → Size → Initialiser → Sign → Next
 on_item_end i z v s = on_ended i.at i.words (i.done ++ item_of i z v ∷ []) i.home s
 
 abbrev pub on_sized : Naming → Size → Sign → Next
-on_sized i z sign.Assign = goes (home_nesting i.home) (either sign.LeftBrace (home_nesting i.home) (operand [] (list_ i z [])) (operand [] (value_ i z)))
+on_sized i z sign.Assign = goes (home_nesting i.home) (item_valued i z)
 on_sized i z s = on_item_end i z initialiser.Absent s
 
 abbrev pub on_named : Naming → Sign → Next
 on_named i sign.LeftBracket = goes (home_nesting i.home) (either sign.RightBracket (home_nesting i.home) (item_sized i size.Absent) (operand [] (size_ i)))
 on_named i s = on_sized i size.Scalar s
 
-abbrev pub value_after : Naming → Size → List Expr → State
-value_after i z es = either sign.RightBrace (home_nesting i.home) (item_end i z (initialiser.List es true)) (operand [] (list_ i z es))
+abbrev pub value_after : Naming → Size → At → List Expr → State
+value_after i z at es = either sign.RightBrace (home_nesting i.home) (item_end i z (initialiser.List at es true)) (operand [] (list_ i z at es))
 
 -- a whole expression where it is read for that
 abbrev pub close_use : Use → Expr → Sign → Next
@@ -379,8 +381,8 @@ close_use (test_ at st us) e sign.Semicolon = goes (behind (start_behind (suc (i
 close_use (next_ at st t us) e sign.RightParen = goes (behind (maybe_behind (start_behind (suc (inside us)) st) t) (about e)) (want (in_for at st t (Some e) ∷ us))
 close_use (size_ i) e sign.RightBracket = goes (home_nesting i.home) (item_sized i (size.Given e))
 close_use (value_ i z) e s = on_item_end i z (initialiser.Value e) s
-close_use (list_ i z es) e sign.Comma = goes (home_nesting i.home) (value_after i z (es ++ e ∷ []))
-close_use (list_ i z es) e sign.RightBrace = goes (home_nesting i.home) (item_end i z (initialiser.List (es ++ e ∷ []) false))
+close_use (list_ i z at es) e sign.Comma = goes (home_nesting i.home) (value_after i z at (es ++ e ∷ []))
+close_use (list_ i z at es) e sign.RightBrace = goes (home_nesting i.home) (item_end i z (initialiser.List at (es ++ e ∷ []) false))
 close_use _ e _ = None
 
 -- the end of an open bracket, or more behind a frame that is full
@@ -488,24 +490,27 @@ abbrev pub more_words : Return → Sign → Option TypeWords
 more_words gives.Void s = None
 more_words (gives.Value t) s = joined t s
 
+abbrev pub identifier : At → List ℕ → Identifier
+identifier at n = record { at = at; bytes = n }
+
 abbrev pub on_declared_name : At → At → Return → Word → Home → Next
-on_declared_name t at r (a_name n) h = goes (home_nesting h) (declared at r t n h)
+on_declared_name t at r (a_name n) h = goes (home_nesting h) (declared at r (identifier t n) h)
 on_declared_name t at r _ h = None
 
 abbrev pub on_declaring : At → At → Return → Word → Option TypeWords → Home → Next
 on_declaring t at r w (Some ty) h = goes (home_nesting h) (declaring at (gives.Value ty) h)
 on_declaring t at r w None h = on_declared_name t at r w h
 
-abbrev pub on_object : At → Return → At → List ℕ → Home → Sign → Next
-on_object at gives.Void p n h s = None
-on_object at (gives.Value t) p n h s = on_named (record { at = at; words = t; done = []; home = h; item_at = p; name = n }) s
+abbrev pub on_object : At → Return → Identifier → Home → Sign → Next
+on_object at gives.Void n h s = None
+on_object at (gives.Value t) n h s = on_named (record { at = at; words = t; done = []; home = h; name = n }) s
 
-abbrev pub on_declared : At → Return → At → List ℕ → Home → Sign → Next
-on_declared at r p n h sign.LeftParen = goes (home_nesting h) (parameters_first (record { at = at; gives = r; name = n; home = h }))
-on_declared at r p n h s = on_object at r p n h s
+abbrev pub on_declared : At → Return → Identifier → Home → Sign → Next
+on_declared at r n h sign.LeftParen = goes (home_nesting h) (parameters_first (record { at = at; gives = r; name = n; home = h }))
+on_declared at r n h s = on_object at r n h s
 
 abbrev pub on_next : At → Word → At → TypeWords → List Item → Home → Next
-on_next p (a_name n) at t is h = goes (home_nesting h) (item_named (record { at = at; words = t; done = is; home = h; item_at = p; name = n }))
+on_next p (a_name n) at t is h = goes (home_nesting h) (item_named (record { at = at; words = t; done = is; home = h; name = identifier p n }))
 on_next p _ at t is h = None
 
 abbrev pub on_parameter : At → Option TypeWords → Heading → List Parameter → Next
@@ -522,16 +527,16 @@ on_parameter_end h ps sign.Comma = goes (home_nesting h.home) (parameter_next h 
 on_parameter_end h ps sign.RightParen = goes (home_nesting h.home) (header h (parameters.List ps))
 on_parameter_end h ps _ = None
 
-abbrev pub a_parameter : At → TypeWords → Option (List ℕ) → Parameter
+abbrev pub a_parameter : At → TypeWords → Option Identifier → Parameter
 a_parameter p t n = record { at = p; words = t; name = n }
 
-abbrev pub on_parameter_name : Word → Heading → List Parameter → At → TypeWords → Next
-on_parameter_name (a_name n) h ps p t = goes (home_nesting h.home) (parameter_ended h (ps ++ a_parameter p t (Some n) ∷ []))
-on_parameter_name w h ps p t = on_parameter_end h (ps ++ a_parameter p t None ∷ []) (sign_of_word w)
+abbrev pub on_parameter_name : At → Word → Heading → List Parameter → At → TypeWords → Next
+on_parameter_name at (a_name n) h ps p t = goes (home_nesting h.home) (parameter_ended h (ps ++ a_parameter p t (Some (identifier at n)) ∷ []))
+on_parameter_name at w h ps p t = on_parameter_end h (ps ++ a_parameter p t None ∷ []) (sign_of_word w)
 
-abbrev pub on_typed : Word → Option TypeWords → Heading → List Parameter → At → TypeWords → Next
-on_typed w (Some more) h ps p t = goes (home_nesting h.home) (parameter_typed h ps p more)
-on_typed w None h ps p t = on_parameter_name w h ps p t
+abbrev pub on_typed : At → Word → Option TypeWords → Heading → List Parameter → At → TypeWords → Next
+on_typed at w (Some more) h ps p t = goes (home_nesting h.home) (parameter_typed h ps p more)
+on_typed at w None h ps p t = on_parameter_name at w h ps p t
 
 abbrev pub on_body : Heading → Parameters → Home → Next
 on_body h qs (at_top ps) = goes 1 (want (in_body ps h.at h.gives h.name qs [] ∷ []))
@@ -544,7 +549,7 @@ on_header h qs _ = None
 
 abbrev pub on_program : At → Sign → List External → Next
 on_program at sign.Include ps = goes 0 (program (ps ++ external.Include at ∷ []))
-on_program at sign.End ps = goes 0 (finished ps)
+on_program at sign.End ps = goes 0 (finished (record { parts = ps; end = at }))
 on_program at s ps = on_declaration at s (type_of s) (at_top ps) None
 
 -- the end is never expected
@@ -552,6 +557,10 @@ abbrev pub is_sign : Word → Sign → Bool
 is_sign (a_sign sign.End) s = false
 is_sign (a_sign x) s = same x s
 is_sign _ s = false
+
+-- the first word of an initialiser
+abbrev pub on_valued : At → Word → Naming → Size → Next
+on_valued at w i z = cond (is_sign w sign.LeftBrace) (goes (home_nesting i.home) (operand [] (list_ i z at []))) (on_operand at w [] (value_ i z))
 
 -- ---- the machine
 
@@ -567,24 +576,25 @@ step (want us) t = on_want t.at t.word (sign_of_word t.word) us
 step (got x us) t = settle t.at t.word (sign_of_word t.word) x us
 step (for_first at us) t = on_first t.at t.word (sign_of_word t.word) at us
 step (declaring at r h) t = on_declaring t.at at r t.word (more_words r (sign_of_word t.word)) h
-step (declared at r p n h) t = on_declared at r p n h (sign_of_word t.word)
+step (declared at r n h) t = on_declared at r n h (sign_of_word t.word)
 step (item_named i) t = on_named i (sign_of_word t.word)
 step (item_sized i z) t = on_sized i z (sign_of_word t.word)
+step (item_valued i z) t = on_valued t.at t.word i z
 step (item_ended at ty is h) t = on_ended at ty is h (sign_of_word t.word)
 step (item_next at ty is h) t = on_next t.at t.word at ty is h
 step (parameters_first h) t = on_parameters t.at (sign_of_word t.word) h
-step (parameter_typed h ps p ty) t = on_typed t.word (joined ty (sign_of_word t.word)) h ps p ty
+step (parameter_typed h ps p ty) t = on_typed t.at t.word (joined ty (sign_of_word t.word)) h ps p ty
 step (parameter_ended h ps) t = on_parameter_end h ps (sign_of_word t.word)
 step (parameter_next h ps) t = on_parameter t.at (type_of (sign_of_word t.word)) h ps
 step (header h qs) t = on_header h qs (sign_of_word t.word)
 step (program ps) t = on_program t.at (sign_of_word t.word) ps
-step (finished ps) t = None
+step (finished p) t = None
 
 abbrev pub Outcome : Type 0
-Outcome = Result (List External) Trouble
+Outcome = Result Syntax Trouble
 
 abbrev pub at_end : State → Outcome
-at_end (finished ps) = Ok ps
+at_end (finished p) = Ok p
 at_end _ = Err (Wrong 0)
 
 abbrev pub moved : (ℕ → Bool) → ℕ → Next → (State → Outcome) → Outcome
@@ -593,7 +603,7 @@ moved T n (Some x) k = cond (T x.0) (k x.1) (Err (Deep n))
 
 -- nothing is read behind the end
 abbrev pub settled : Outcome → Outcome → Outcome
-settled (Ok ps) v = Ok ps
+settled (Ok p) v = Ok p
 settled (Err e) v = v
 
 abbrev pub run : (ℕ → Bool) → List Lexeme → State → Outcome

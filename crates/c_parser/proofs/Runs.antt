@@ -45,9 +45,10 @@ going (m.want us) t _ s2 eq = refl
 going (m.got x us) t _ s2 eq = refl
 going (m.for_first at us) t _ s2 eq = refl
 going (m.declaring at g h) t _ s2 eq = refl
-going (m.declared at g q f h) t _ s2 eq = refl
+going (m.declared at g f h) t _ s2 eq = refl
 going (m.item_named i) t _ s2 eq = refl
 going (m.item_sized i z) t _ s2 eq = refl
+going (m.item_valued i z) t _ s2 eq = refl
 going (m.item_ended at ty is h) t _ s2 eq = refl
 going (m.item_next at ty is h) t _ s2 eq = refl
 going (m.parameters_first k) t _ s2 eq = refl
@@ -56,7 +57,7 @@ going (m.parameter_ended k ps) t _ s2 eq = refl
 going (m.parameter_next k ps) t _ s2 eq = refl
 going (m.header k qs) t _ s2 eq = refl
 going (m.program ps) t _ s2 eq = refl
-going (m.finished ps) t _ s2 eq = absurd cc
+going (m.finished p) t _ s2 eq = absurd cc
 
 module _ (T : ℕ → Bool) where
   -- words that meet the leaves of a tree, none of which stands deeper than the test lets it

@@ -57,7 +57,7 @@ text_unders (in_for at b t n ∷ us) r = text_unders us (leaves_at at (begun_und
 text_unders (in_switch at e ss ∷ us) r = text_unders us (leaves_at at (begun_under (in_switch at e ss)) (suc (inside us)) (leaves_of (items ss) (suc (behind (suc (inside us)) (about e))) r))
 text_unders (in_case at e ∷ us) r = text_unders us (leaves_at at (begun_under (in_case at e)) (suc (inside us)) r)
 text_unders (in_default at ∷ us) r = text_unders us (leaves_at at (begun_under (in_default at)) (suc (inside us)) r)
-text_unders (in_body ps at g n qs ss ∷ us) r = leaves_of (tops ps) 0 (leaves_at at (returned g) 0 (leaf (a_name n) None 0 ∷ leaf (a_sign sign.LeftParen) None 0 ∷ leaves_of (listed qs) 0 (leaf (a_sign sign.RightParen) None 0 ∷ leaves_of (items ss) 1 r)))
+text_unders (in_body ps at g n qs ss ∷ us) r = leaves_of (tops ps) 0 (leaves_at at (returned g) 0 (leaf (a_name n.bytes) (Some n.at) 0 ∷ leaf (a_sign sign.LeftParen) None 0 ∷ leaves_of (listed qs) 0 (leaf (a_sign sign.RightParen) None 0 ∷ leaves_of (items ss) 1 r)))
 
 abbrev pub ok_items : List Statement → Type 0
 ok_items ss = all_fit (each item (map about_statement ss)) ≡ true
@@ -88,14 +88,14 @@ abbrev pub text_type : At → TypeWords → Home → List Leaf → List Leaf
 text_type at t h r = text_home h (leaves_at at (type t) (home_nesting h) r)
 
 abbrev pub text_naming : Naming → List Leaf → List Leaf
-text_naming i r = text_type i.at i.words i.home (leaves_of (trail object i.done) (home_nesting i.home) (leaf (a_name i.name) (Some i.item_at) (home_nesting i.home) ∷ r))
+text_naming i r = text_type i.at i.words i.home (leaves_of (trail object i.done) (home_nesting i.home) (leaf (a_name i.name.bytes) (Some i.name.at) (home_nesting i.home) ∷ r))
 
 abbrev pub a_parameter : Parameter → Part
 a_parameter x = piece (parameter x)
 
 -- up to the opening parenthesis
 abbrev pub text_heading : Heading → List Leaf → List Leaf
-text_heading k r = text_home k.home (leaves_at k.at (returned k.gives) (home_nesting k.home) (leaf (a_name k.name) None (home_nesting k.home) ∷ leaf (a_sign sign.LeftParen) None (home_nesting k.home) ∷ r))
+text_heading k r = text_home k.home (leaves_at k.at (returned k.gives) (home_nesting k.home) (leaf (a_name k.name.bytes) (Some k.name.at) (home_nesting k.home) ∷ leaf (a_sign sign.LeftParen) None (home_nesting k.home) ∷ r))
 
 abbrev pub ok_naming : Naming → Type 0
 ok_naming i = ok_home i.home × (all_fit (trail object i.done) ≡ true)
@@ -115,7 +115,7 @@ text_use (test_ at b us) r = text_unders us (leaves_at at (the_sign sign.For ∷
 text_use (next_ at b t us) r = text_unders us (leaves_at at (the_sign sign.For ∷ the_sign sign.LeftParen ∷ (started b ++ (maybe t ++ the_sign sign.Semicolon ∷ []))) (suc (inside us)) r)
 text_use (size_ i) r = text_naming i (leaf (a_sign sign.LeftBracket) None (home_nesting i.home) ∷ r)
 text_use (value_ i z) r = text_naming i (leaves_of (sized z) (home_nesting i.home) (leaf (a_sign sign.Assign) None (home_nesting i.home) ∷ r))
-text_use (list_ i z es) r = text_naming i (leaves_of (sized z) (home_nesting i.home) (leaf (a_sign sign.Assign) None (home_nesting i.home) ∷ leaf (a_sign sign.LeftBrace) None (home_nesting i.home) ∷ leaves_of (trail argument es) (home_nesting i.home) r))
+text_use (list_ i z at es) r = text_naming i (leaves_of (sized z) (home_nesting i.home) (leaf (a_sign sign.Assign) None (home_nesting i.home) ∷ leaf (a_sign sign.LeftBrace) (Some at) (home_nesting i.home) ∷ leaves_of (trail argument es) (home_nesting i.home) r))
 
 abbrev pub ok_use : Use → Type 0
 ok_use (evaluate us) = ok_unders us
@@ -130,7 +130,7 @@ ok_use (test_ at b us) = (all_fit (started b) ≡ true) × ok_unders us
 ok_use (next_ at b t us) = (all_fit (started b) ≡ true) × (all_fit (maybe t) ≡ true) × ok_unders us
 ok_use (size_ i) = ok_naming i
 ok_use (value_ i z) = (all_fit (sized z) ≡ true) × ok_naming i
-ok_use (list_ i z es) = (all_fit (sized z) ≡ true) × (all_fit (trail argument es) ≡ true) × ok_naming i
+ok_use (list_ i z at es) = (all_fit (sized z) ≡ true) × (all_fit (trail argument es) ≡ true) × ok_naming i
 
 -- ---- expressions
 
@@ -188,7 +188,7 @@ abbrev pub use_low : Use → Bool
 use_low (case_ at us) = false
 use_low (size_ i) = false
 use_low (value_ i z) = false
-use_low (list_ i z es) = false
+use_low (list_ i z at es) = false
 use_low _ = true
 
 -- any expression is wanted

@@ -23,7 +23,7 @@ use Rattle.c_parser.proofs.Machine.{Frame, State, operand, have, named, opened, 
 use Rattle.c_parser.proofs.Runs.{lex}
 use Rattle.c_parser.proofs.DeclComplete.{joined_other}
 use Rattle.c_parser.proofs.Fill.{fit_append, text_have, Ok_have}
-use Rattle.c_parser.proofs.Text.{trail, object, a_parameter, tops, text_unders, ok_unders, text_home, ok_home, text_type, text_naming, ok_naming, text_heading, text_frames, ok_frames}
+use Rattle.c_parser.proofs.Text.{trail, object, a_parameter, tops, text_unders, ok_unders, text_home, ok_home, text_type, text_naming, ok_naming, text_heading, text_use, text_frames, ok_frames}
 
 -- ---- words with their nesting
 
@@ -200,9 +200,10 @@ Reached xs (want us) = Pre xs (text_unders us) × ok_unders us
 Reached xs (got x us) = Pre xs (Stat_text x us) × ok_unders us × (stands 2 (about_statement x) ≡ true)
 Reached xs (m.for_first at us) = Pre xs (text_home (m.at_start at us)) × ok_unders us
 Reached xs (m.declaring at g h) = Pre xs (λ r. text_home h (leaves_at at (returned g) (home_nesting h) r)) × ok_home h
-Reached xs (m.declared at g p n h) = Pre xs (λ r. text_home h (leaves_at at (returned g) (home_nesting h) (leaf (a_name n) None (home_nesting h) ∷ r))) × Pre xs (λ r. text_home h (leaves_at at (returned g) (home_nesting h) (leaf (a_name n) (Some p) (home_nesting h) ∷ r))) × ok_home h
+Reached xs (m.declared at g n h) = Pre xs (λ r. text_home h (leaves_at at (returned g) (home_nesting h) (leaf (a_name n.bytes) (Some n.at) (home_nesting h) ∷ r))) × ok_home h
 Reached xs (m.item_named i) = Pre xs (text_naming i) × ok_naming i
 Reached xs (m.item_sized i z) = Pre xs (λ r. text_naming i (leaves_of (sized z) (home_nesting i.home) r)) × (all_fit (sized z) ≡ true) × ok_naming i
+Reached xs (m.item_valued i z) = Pre xs (text_use (m.value_ i z)) × (all_fit (sized z) ≡ true) × ok_naming i
 Reached xs (m.item_ended at t is h) = Pre xs (λ r. text_type at t h (leaves_of (commas piece (map declarator is)) (home_nesting h) r)) × (all_fit (some is ∷ commas piece (map declarator is)) ≡ true) × ok_home h
 Reached xs (m.item_next at t is h) = Pre xs (λ r. text_type at t h (leaves_of (trail object is) (home_nesting h) r)) × (all_fit (trail object is) ≡ true) × ok_home h
 Reached xs (m.parameters_first k) = Pre xs (text_heading k) × ok_home k.home
@@ -211,7 +212,7 @@ Reached xs (m.parameter_ended k ps) = Pre xs (λ r. text_heading k (leaves_of (c
 Reached xs (m.parameter_next k ps) = Pre xs (λ r. text_heading k (leaves_of (trail a_parameter ps) (home_nesting k.home) r)) × (all_fit (trail a_parameter ps) ≡ true) × ok_home k.home
 Reached xs (m.header k qs) = Pre xs (text_header k qs) × (all_fit (listed qs) ≡ true) × ok_home k.home
 Reached xs (m.program ps) = Pre xs (λ r. leaves_of (tops ps) 0 r) × (all_fit (tops ps) ≡ true)
-Reached xs (m.finished ps) = Pre xs (λ r. leaves_of (tops ps) 0 (leaf (a_sign sign.End) None 0 ∷ r)) × (all_fit (tops ps) ≡ true) × ((ys : Taken) × (t : Lexeme) × (xs ≡ ys ++ (t, 0) ∷ []) × (t.word ≡ a_sign sign.End))
+Reached xs (m.finished p) = Pre xs (λ r. leaves_of (tops p.parts) 0 (leaf (a_sign sign.End) (Some p.end) 0 ∷ r)) × (all_fit (tops p.parts) ≡ true) × ((ys : Taken) × (t : Lexeme) × (xs ≡ ys ++ (t, 0) ∷ []) × (t.word ≡ a_sign sign.End))
 
 abbrev pub Stepped : Taken → Lexeme → Next → Type 0
 Stepped xs t None = Unit {0}

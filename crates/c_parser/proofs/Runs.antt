@@ -80,11 +80,6 @@ module _ (T : ℕ → Bool) where
       let goes : step s t ≡ Some (n, s2) = ap (λ l. step s l) same ∙ e t.at mt.meets.1 in
       ap (λ a. settled a (moved T (suc (length ts)) (step s t) (run T ts))) (going s t n s2 goes) ∙ ap (λ (x : Next). moved T (suc (length ts)) x (run T ts)) goes ∙ ap (λ b. cond b (run T ts s2) (Err (Deep (suc (length ts))))) mt.meets.2 ∙ k ts (record { meets = mt.meets.3 })
 
-  -- the same where the next state has the word's place
-  pub took_any : (s : State) (s2 : At → State) {w : Word} {o : Option At} {n : ℕ} {r : List Leaf} (ts : List Lexeme) (v : Outcome) → ((p : At) → step s (lex w p) ≡ Some (n, s2 p)) → Met ts (leaf w o n ∷ r) → ((p : At) (vs : List Lexeme) → Met vs r → run T vs (s2 p) ≡ v) → run T ts s ≡ v
-  took_any s s2 [] v e mt k = absurd mt.meets
-  took_any s s2 {w} {o} {n} {r} (t ∷ ts) v e mt k = took s (s2 t.at) {o = Some t.at} {n = n} {r = r} (t ∷ ts) v (λ p st. subst (λ q. step s (lex w q) ≡ Some (n, s2 t.at)) st (e t.at)) (record { meets = (mt.meets.0, refl, mt.meets.2, mt.meets.3) }) (k t.at)
-
   -- the first word does the same to both states
   pub skip : (s s2 : State) → at_end s ≡ at_end s2 → {ls : List Leaf} (ts : List Lexeme) → ((t : Lexeme) → starts (sign_of_word t.word) ≡ true → step s t ≡ step s2 t) → starts (head_sign ls) ≡ true → Met ts ls → run T ts s ≡ run T ts s2
   skip s s2 ends {ls = []} ts e st mt = absurd cc

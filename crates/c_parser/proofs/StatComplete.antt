@@ -6,6 +6,7 @@ use Rattle.c_tree.specs.declared.token.At.{At}
 use Rattle.c_tree.specs.declared.syntax.TypeWords.{TypeWords}
 use Rattle.c_tree.specs.declared.syntax.TypeWords.TheVariants as words
 use Rattle.c_tree.specs.declared.syntax.Expr.{Expr}
+use Rattle.c_tree.specs.declared.syntax.Identifier.{Identifier}
 use Rattle.c_tree.specs.declared.syntax.Return.{Return}
 use Rattle.c_tree.specs.declared.syntax.Return.TheVariants as gives
 use Rattle.c_tree.specs.declared.syntax.Parameter.{Parameter}
@@ -16,7 +17,7 @@ use Rattle.c_tree.specs.declared.syntax.Declaration.TheVariants as declaration
 use Rattle.c_grammar.specs.declared.sign.Sign.{Sign}
 use Rattle.c_grammar.specs.declared.sign.Sign.TheVariants as sign
 use Rattle.c_grammar.specs.Words.{Word, a_sign, sign_of_word, Lexeme}
-use Rattle.c_grammar.specs.Phrases.{Leaf, leaf, Said, Part, stands, is_at, entry, behind, leaves_of, leaves_at, all_fit, open_, item, piece, commas, node, each, the_sign}
+use Rattle.c_grammar.specs.Phrases.{Leaf, leaf, Said, Part, stands, is_at, entry, behind, leaves_of, leaves_at, all_fit, open_, item, piece, commas, node, each, placed as placed_word, the_sign}
 use Rattle.c_grammar.specs.Grammar.{about, maybe, started, condition, statement_part, block, declared, about_statement, returned, called, listed, parameter, part, program}
 use Rattle.c_tree.specs.declared.syntax.Start.{Start}
 use Rattle.c_tree.specs.declared.syntax.Start.TheVariants as start
@@ -216,7 +217,7 @@ adds_switch : (xs done : List Statement) (at : At) (e : Expr) (us : List Under) 
 adds_switch [] done at e us = ap (λ l. m.in_switch at e l ∷ us) (sym (append-nil done))
 adds_switch (x ∷ xs) done at e us = adds_switch xs (done ++ x ∷ []) at e us ∙ ap (λ l. m.in_switch at e l ∷ us) (append_assoc done (x ∷ []) xs)
 
-adds_body : (xs done : List Statement) (ps : List External) (at : At) (r : Return) (n : List ℕ) (qs : Parameters) (us : List Under) → adds xs (m.in_body ps at r n qs done ∷ us) ≡ m.in_body ps at r n qs (done ++ xs) ∷ us
+adds_body : (xs done : List Statement) (ps : List External) (at : At) (r : Return) (n : Identifier) (qs : Parameters) (us : List Under) → adds xs (m.in_body ps at r n qs done ∷ us) ≡ m.in_body ps at r n qs (done ++ xs) ∷ us
 adds_body [] done ps at r n qs us = ap (λ l. m.in_body ps at r n qs l ∷ us) (sym (append-nil done))
 adds_body (x ∷ xs) done ps at r n qs us = adds_body xs (done ++ x ∷ []) ps at r n qs us ∙ ap (λ l. m.in_body ps at r n qs l ∷ us) (append_assoc done (x ∷ []) xs)
 
@@ -532,7 +533,7 @@ module _ (T : ℕ → Bool) where
   returned_fits (gives.Value words.SignedChar) ps h = h
   returned_fits (gives.Value _) ps h = h
 
-  abbrev bodied : List ℕ → Parameters → List Statement → List Part
+  abbrev bodied : Identifier → Parameters → List Statement → List Part
   bodied n qs body = called n qs (block (map about_statement body) ∷ [])
 
   listed_fits : (qs : Parameters) (ps : List Part) → all_fit (listed qs ++ the_sign sign.RightParen ∷ ps) ≡ true → all_fit ps ≡ true
@@ -556,16 +557,19 @@ module _ (T : ℕ → Bool) where
       (λ ws mw. items_run (m.in_body ps at g n qs [] ∷ []) refl (known body) (and_parts _ _ f2).0 r ws v (met_as T ws _ _ (ap (λ l. leaves_of (each item (map about_statement l) ++ the_sign sign.RightBrace ∷ []) 1 r) (sym (known_trees body))) mw)
       (λ ys my. ap (λ s. run T ys s) (ap after_block (adds_body (trees (known body)) [] ps at g n qs [] ∙ ap (λ l. m.in_body ps at g n qs l ∷ []) (known_trees body))) ∙ go ys my)))
 
-  parts_run : (xs ps : List External) → all_fit (each piece (map part xs) ++ the_sign sign.End ∷ []) ≡ true → (ts : List Lexeme) → Met T ts (leaves_of (each piece (map part xs) ++ the_sign sign.End ∷ []) 0 []) → run T ts (m.program ps) ≡ Ok (ps ++ xs)
-  parts_run [] ps fits ts mt = took T (m.program ps) (m.finished ps) ts (Ok (ps ++ [])) (λ q st. refl) mt finish
-    where
-      finish : (vs : List Lexeme) → Met T vs [] → run T vs (m.finished ps) ≡ Ok (ps ++ [])
-      finish [] mv = ap (λ l. Ok l) (sym (append-nil ps))
-      finish (t ∷ vs) mv = absurd mv.meets
-  parts_run (x ∷ xs) ps fits ts mt =
-      let p = and_parts (part x).fits _ fits in
-      external_run x ps p.0 _ ts (Ok (ps ++ x ∷ xs)) mt (λ vs mv. parts_run xs (ps ++ x ∷ []) p.1 vs mv ∙ ap (λ l. Ok l) (append_assoc ps (x ∷ []) xs))
+  abbrev whole : List External → At → Outcome
+  whole ps at = Ok (record { parts = ps; end = at })
 
-  -- the words of a program lead to its parts
-  pub complete_program : (p : Syntax) (ts : List Lexeme) → (program p).fits ≡ true → Met T ts ((program p).leaves 0 []) → run T ts (m.program []) ≡ Ok p.parts
-  complete_program p ts fits mt = parts_run p.parts [] fits ts mt
+  parts_run : (xs ps : List External) (at : At) → all_fit (each piece (map part xs) ++ placed_word at (a_sign sign.End) ∷ []) ≡ true → (ts : List Lexeme) → Met T ts (leaves_of (each piece (map part xs) ++ placed_word at (a_sign sign.End) ∷ []) 0 []) → run T ts (m.program ps) ≡ whole (ps ++ xs) at
+  parts_run [] ps at fits ts mt = took T (m.program ps) (m.finished (record { parts = ps; end = at })) ts (whole (ps ++ []) at) (λ q st. ap (λ z. goes 0 (m.finished (record { parts = ps; end = z }))) (sym st)) mt finish
+    where
+      finish : (vs : List Lexeme) → Met T vs [] → run T vs (m.finished (record { parts = ps; end = at })) ≡ whole (ps ++ []) at
+      finish [] mv = ap (λ l. whole l at) (sym (append-nil ps))
+      finish (t ∷ vs) mv = absurd mv.meets
+  parts_run (x ∷ xs) ps at fits ts mt =
+      let p = and_parts (part x).fits _ fits in
+      external_run x ps p.0 _ ts (whole (ps ++ x ∷ xs) at) mt (λ vs mv. parts_run xs (ps ++ x ∷ []) at p.1 vs mv ∙ ap (λ l. whole l at) (append_assoc ps (x ∷ []) xs))
+
+  -- the words of a program lead to it
+  pub complete_program : (p : Syntax) (ts : List Lexeme) → (program p).fits ≡ true → Met T ts ((program p).leaves 0 []) → run T ts (m.program []) ≡ Ok p
+  complete_program p ts fits mt = parts_run p.parts [] p.end fits ts mt

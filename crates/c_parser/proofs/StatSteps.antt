@@ -10,6 +10,7 @@ use Rattle.c_tree.specs.declared.syntax.Expr.{Expr}
 use Rattle.c_tree.specs.declared.syntax.Size.{Size}
 use Rattle.c_tree.specs.declared.syntax.Size.TheVariants as size
 use Rattle.c_tree.specs.declared.syntax.Initialiser.TheVariants as initialiser
+use Rattle.c_tree.specs.declared.syntax.Identifier.{Identifier}
 use Rattle.c_tree.specs.declared.syntax.Item.{Item}
 use Rattle.c_tree.specs.declared.syntax.Return.{Return}
 use Rattle.c_tree.specs.declared.syntax.Return.TheVariants as gives
@@ -115,6 +116,14 @@ filled_block xs us x h ok f = add_reached xs x us (pre_as xs _ _ (λ r. block_en
 
 -- ---- steps
 
+-- the word that is taken for a sign is that sign
+is_word : (w : Word) (s : Sign) → m.is_sign w s ≡ true → w ≡ a_sign s
+is_word (a_sign sign.End) s e = absurd cc
+is_word (a_sign x) s e = ap a_sign (same_true the_type (search rules) x s e)
+is_word (a_name n) s e = absurd cc
+is_word (a_number v d u) s e = absurd cc
+is_word (a_character v) s e = absurd cc
+
 module _ (xs : Taken) (t : Lexeme) where
   stat_first : (us : List Under) (at : At) (s : Sign) → sign_of_word t.word ≡ s → same s sign.Other ≡ false → t.at ≡ at → Pre xs (text_unders us) → Pre (xs ++ (t, suc (inside us)) ∷ []) (λ r. text_unders us (leaf (a_sign s) (Some at) (suc (inside us)) ∷ r))
   stat_first us at s w o is p = some_at xs t (text_unders us) _ s _ w o p (λ r. ap (λ q. text_unders us (leaf (a_sign s) (Some q) (suc (inside us)) ∷ r)) (sym is))
@@ -148,11 +157,11 @@ module _ (xs : Taken) (t : Lexeme) where
   listed_then (parameters.List []) ps n r = refl
   listed_then (parameters.List (q ∷ qs)) ps n r = comma_pieces parameter (q ∷ qs) ps n r
 
-  defined_text : (at : At) (g : Return) (n : List ℕ) (qs : Parameters) (ss : List Statement) (r : List Leaf) → (part (external.Defined at g n qs ss)).leaves 0 r
-      ≡ leaves_at at (returned g) 0 (leaf (a_name n) None 0 ∷ leaf (a_sign sign.LeftParen) None 0 ∷ leaves_of (listed qs) 0 (leaf (a_sign sign.RightParen) None 0 ∷ leaf (a_sign sign.LeftBrace) None 1 ∷ leaves_of (each item (map about_statement ss)) 1 (leaf (a_sign sign.RightBrace) None 1 ∷ r)))
-  defined_text at g n qs ss r = returned_then at g _ 0 r ∙ ap (λ l. leaves_at at (returned g) 0 (leaf (a_name n) None 0 ∷ leaf (a_sign sign.LeftParen) None 0 ∷ l)) (listed_then qs _ 0 r ∙ ap (λ l. leaves_of (listed qs) 0 (leaf (a_sign sign.RightParen) None 0 ∷ leaf (a_sign sign.LeftBrace) None 1 ∷ l)) (each_items about_statement ss (the_sign sign.RightBrace ∷ []) 1 r))
+  defined_text : (at : At) (g : Return) (n : Identifier) (qs : Parameters) (ss : List Statement) (r : List Leaf) → (part (external.Defined at g n qs ss)).leaves 0 r
+      ≡ leaves_at at (returned g) 0 (leaf (a_name n.bytes) (Some n.at) 0 ∷ leaf (a_sign sign.LeftParen) None 0 ∷ leaves_of (listed qs) 0 (leaf (a_sign sign.RightParen) None 0 ∷ leaf (a_sign sign.LeftBrace) None 1 ∷ leaves_of (each item (map about_statement ss)) 1 (leaf (a_sign sign.RightBrace) None 1 ∷ r)))
+  defined_text at g n qs ss r = returned_then at g _ 0 r ∙ ap (λ l. leaves_at at (returned g) 0 (leaf (a_name n.bytes) (Some n.at) 0 ∷ leaf (a_sign sign.LeftParen) None 0 ∷ l)) (listed_then qs _ 0 r ∙ ap (λ l. leaves_of (listed qs) 0 (leaf (a_sign sign.RightParen) None 0 ∷ leaf (a_sign sign.LeftBrace) None 1 ∷ l)) (each_items about_statement ss (the_sign sign.RightBrace ∷ []) 1 r))
 
-  defined_fit : (at : At) (g : Return) (n : List ℕ) (qs : Parameters) (ss : List Statement) → all_fit (listed qs) ≡ true → ok_items ss → (part (external.Defined at g n qs ss)).fits ≡ true
+  defined_fit : (at : At) (g : Return) (n : Identifier) (qs : Parameters) (ss : List Statement) → all_fit (listed qs) ≡ true → ok_items ss → (part (external.Defined at g n qs ss)).fits ≡ true
   defined_fit at g n qs ss h k = heads_fit at g _ (fit_append (listed qs) _ h (and_from _ _ (fit_append (items ss) (the_sign sign.RightBrace ∷ []) k refl) refl))
 
   pub close_reached : (us : List Under) → sign_of_word t.word ≡ sign.RightBrace → Pre xs (text_unders us) → ok_unders us → Stepped xs t (close_block us)
@@ -229,16 +238,19 @@ module _ (xs : Taken) (t : Lexeme) where
   more_reached : (at : At) (g : Return) (w : Word) (o : Option TypeWords) (h : Home) → t.word ≡ w → m.more_words g (sign_of_word w) ≡ o → Reached xs (m.declaring at g h) → Stepped xs t (m.on_declaring t.at at g w o h)
   more_reached at gives.Void w (Some ty) h e j p = absurd cc
   more_reached at (gives.Value old) w (Some ty) h e j p = (none_at xs t _ (λ r. text_home h (leaves_at at (type ty) (home_nesting h) r)) (sign_of_word w) _ (ap sign_of_word e) (joined_sign old _ ty j) p.0 (λ r. ap (λ l. text_home h l) (type_at_snoc at old _ ty (home_nesting h) r j)), p.1)
-  more_reached at g (a_name n) None h e j p = (pre_more xs _ _ t (a_name n) None _ e tt p.0 (λ r. refl), pre_more xs _ _ t (a_name n) (Some t.at) _ e refl p.0 (λ r. refl), p.1)
+  more_reached at g (a_name n) None h e j p = (pre_more xs _ _ t (a_name n) (Some t.at) _ e refl p.0 (λ r. refl), p.1)
   more_reached at g (a_number v d k) None h e j p = tt
   more_reached at g (a_character v) None h e j p = tt
   more_reached at g (a_sign x) None h e j p = tt
 
   sized_reached : (i : Naming) (z : Size) (s : Sign) → sign_of_word t.word ≡ s → Reached xs (m.item_sized i z) → Stepped xs t (m.on_sized i z s)
-  sized_reached i z sign.Assign w p =
-      let q = none_at xs t _ (text_use (m.value_ i z)) sign.Assign _ w refl p.0 (λ r. refl) in
-      ((λ y. (by_sign _ (text_use (m.value_ i z)) (text_use (m.list_ i z [])) sign.LeftBrace _ y q (λ r. refl), (p.1, refl, p.2))), (q, (p.1, p.2)))
+  sized_reached i z sign.Assign w p = (none_at xs t _ (text_use (m.value_ i z)) sign.Assign _ w refl p.0 (λ r. refl), p.1, p.2)
   sized_reached i z s w p = item_end_step xs t i z initialiser.Absent s w p.0 p.1 refl p.2
+
+  valued_reached : (i : Naming) (z : Size) → Reached xs (m.item_valued i z) → Stepped xs t (m.on_valued t.at t.word i z)
+  valued_reached i z p = stepped_if xs t (m.is_sign t.word sign.LeftBrace) _ _
+      (λ h. (pre_more xs _ (text_use (m.list_ i z t.at [])) t (a_sign sign.LeftBrace) (Some t.at) _ (is_word t.word sign.LeftBrace h) refl p.0 (λ r. refl), (p.1, refl, p.2)))
+      (λ h. operand_reached xs t t.word [] (m.value_ i z) refl p.0 (p.1, p.2))
 
   item_named_reached : (i : Naming) (s : Sign) → sign_of_word t.word ≡ s → Reached xs (m.item_named i) → Stepped xs t (m.on_named i s)
   item_named_reached i sign.LeftBracket w p =
@@ -246,10 +258,10 @@ module _ (xs : Taken) (t : Lexeme) where
       ((λ y. (by_sign _ (text_use (m.size_ i)) (λ r. text_naming i (leaves_of (sized size.Absent) (home_nesting i.home) r)) sign.RightBracket _ y q (λ r. refl), refl, p.1)), (q, p.1))
   item_named_reached i s w p = sized_reached i size.Scalar s w (p.0, refl, p.1)
 
-  declared_reached : (at : At) (g : Return) (q : At) (n : List ℕ) (h : Home) (s : Sign) → sign_of_word t.word ≡ s → Reached xs (m.declared at g q n h) → Stepped xs t (m.on_declared at g q n h s)
-  declared_reached at g q n h sign.LeftParen w p = (none_at xs t _ (text_heading (record { at = at; gives = g; name = n; home = h })) sign.LeftParen _ w refl p.0 (λ r. refl), p.2)
-  declared_reached at gives.Void q n h s w p = tt
-  declared_reached at (gives.Value ty) q n h s w p = item_named_reached (record { at = at; words = ty; done = []; home = h; item_at = q; name = n }) s w (p.1, (p.2, refl))
+  declared_reached : (at : At) (g : Return) (n : Identifier) (h : Home) (s : Sign) → sign_of_word t.word ≡ s → Reached xs (m.declared at g n h) → Stepped xs t (m.on_declared at g n h s)
+  declared_reached at g n h sign.LeftParen w p = (none_at xs t _ (text_heading (record { at = at; gives = g; name = n; home = h })) sign.LeftParen _ w refl p.0 (λ r. refl), p.1)
+  declared_reached at gives.Void n h s w p = tt
+  declared_reached at (gives.Value ty) n h s w p = item_named_reached (record { at = at; words = ty; done = []; home = h; name = n }) s w (p.0, (p.1, refl))
 
   next_item_reached : (w : Word) (at : At) (ty : TypeWords) (is : List Item) (h : Home) → t.word ≡ w → Reached xs (m.item_next at ty is h) → Stepped xs t (m.on_next t.at w at ty is h)
   next_item_reached (a_name n) at ty is h e p = (pre_more xs _ _ t (a_name n) (Some t.at) _ e refl p.0 (λ r. refl), (p.2, p.1))
@@ -277,20 +289,20 @@ module _ (xs : Taken) (t : Lexeme) where
   parameter_end_reached k (q ∷ ps) sign.RightParen w p = (none_at xs t _ (text_header k (parameters.List (q ∷ ps))) sign.RightParen _ w refl p.0 (λ r. refl), p.1, p.2)
   parameter_end_reached k (q ∷ ps) _ w p = tt
 
-  abbrev parameter_by : At → TypeWords → Option (List ℕ) → Parameter
+  abbrev parameter_by : At → TypeWords → Option Identifier → Parameter
   parameter_by q ty n = record { at = q; words = ty; name = n }
 
-  parameter_text : (k : Heading) (ps : List Parameter) (q : At) (ty : TypeWords) (n : Option (List ℕ)) (r : List Leaf) → text_heading k (leaves_of (commas piece (map parameter (ps ++ parameter_by q ty n ∷ []))) (home_nesting k.home) r)
+  parameter_text : (k : Heading) (ps : List Parameter) (q : At) (ty : TypeWords) (n : Option Identifier) (r : List Leaf) → text_heading k (leaves_of (commas piece (map parameter (ps ++ parameter_by q ty n ∷ []))) (home_nesting k.home) r)
       ≡ text_heading k (leaves_of (trail a_parameter ps) (home_nesting k.home) (leaves_at q (type ty) (home_nesting k.home) (leaves_of (maybe_name n) (home_nesting k.home) r)))
   parameter_text k ps q ty n r = ap (λ l. text_heading k l) (
       ap (λ qs. leaves_of qs (home_nesting k.home) r) (sym (append-nil (commas piece (map parameter (ps ++ parameter_by q ty n ∷ [])))) ∙ trail_last a_parameter parameter piece (λ x. refl) ps (parameter_by q ty n) [])
       ∙ trail_pieces parameter ps (a_parameter (parameter_by q ty n) ∷ []) (home_nesting k.home) r
       ∙ ap (λ l. leaves_of (trail a_parameter ps) (home_nesting k.home) l) (type_at_then q ty (maybe_name n) (home_nesting k.home) r))
 
-  parameter_fits : (ps : List Parameter) (q : At) (ty : TypeWords) (n : Option (List ℕ)) → all_fit (trail a_parameter ps) ≡ true → all_fit (some (ps ++ parameter_by q ty n ∷ []) ∷ commas piece (map parameter (ps ++ parameter_by q ty n ∷ []))) ≡ true
+  parameter_fits : (ps : List Parameter) (q : At) (ty : TypeWords) (n : Option Identifier) → all_fit (trail a_parameter ps) ≡ true → all_fit (some (ps ++ parameter_by q ty n ∷ []) ∷ commas piece (map parameter (ps ++ parameter_by q ty n ∷ []))) ≡ true
   parameter_fits ps q ty n h = any ps (ap all_fit (sym (append-nil (commas piece (map parameter (ps ++ parameter_by q ty n ∷ [])))) ∙ trail_last a_parameter parameter piece (λ x. refl) ps (parameter_by q ty n) []) ∙ fit_append (trail a_parameter ps) (a_parameter (parameter_by q ty n) ∷ []) h (and_from (parameter (parameter_by q ty n)).fits true (head_fit xs t q ty (maybe_name n) (name_fits n)) refl))
     where
-      name_fits : (n : Option (List ℕ)) → all_fit (maybe_name n) ≡ true
+      name_fits : (n : Option Identifier) → all_fit (maybe_name n) ≡ true
       name_fits None = refl
       name_fits (Some n) = refl
 
@@ -298,18 +310,18 @@ module _ (xs : Taken) (t : Lexeme) where
       any [] h = h
       any (x ∷ ps) h = h
 
-  typed_reached : (w : Word) (o : Option TypeWords) (k : Heading) (ps : List Parameter) (q : At) (ty : TypeWords) → t.word ≡ w → joined ty (sign_of_word w) ≡ o → Reached xs (m.parameter_typed k ps q ty) → Stepped xs t (m.on_typed w o k ps q ty)
+  typed_reached : (w : Word) (o : Option TypeWords) (k : Heading) (ps : List Parameter) (q : At) (ty : TypeWords) → t.word ≡ w → joined ty (sign_of_word w) ≡ o → Reached xs (m.parameter_typed k ps q ty) → Stepped xs t (m.on_typed t.at w o k ps q ty)
   typed_reached w (Some more) k ps q ty e j p = (none_at xs t _ (λ r. text_heading k (leaves_of (trail a_parameter ps) (home_nesting k.home) (leaves_at q (type more) (home_nesting k.home) r))) (sign_of_word w) _ (ap sign_of_word e) (joined_sign ty _ more j) p.0 (λ r. ap (λ l. text_heading k (leaves_of (trail a_parameter ps) (home_nesting k.home) l)) (type_at_snoc q ty _ more (home_nesting k.home) r j)), p.1, p.2)
-  typed_reached (a_name n) None k ps q ty e j p = (pre_more xs _ (λ r. text_heading k (leaves_of (commas piece (map parameter (ps ++ parameter_by q ty (Some n) ∷ []))) (home_nesting k.home) r)) t (a_name n) None _ e tt p.0 (λ r. parameter_text k ps q ty (Some n) r), parameter_fits ps q ty (Some n) p.1, p.2)
+  typed_reached (a_name n) None k ps q ty e j p = (pre_more xs _ (λ r. text_heading k (leaves_of (commas piece (map parameter (ps ++ parameter_by q ty (Some (m.identifier t.at n)) ∷ []))) (home_nesting k.home) r)) t (a_name n) (Some t.at) _ e refl p.0 (λ r. parameter_text k ps q ty (Some (m.identifier t.at n)) r), parameter_fits ps q ty (Some (m.identifier t.at n)) p.1, p.2)
   typed_reached (a_number v d y) None k ps q ty e j p = parameter_end_reached k _ _ (ap sign_of_word e) (pre_as xs _ _ (parameter_text k ps q ty None) p.0, parameter_fits ps q ty None p.1, p.2)
   typed_reached (a_character v) None k ps q ty e j p = parameter_end_reached k _ _ (ap sign_of_word e) (pre_as xs _ _ (parameter_text k ps q ty None) p.0, parameter_fits ps q ty None p.1, p.2)
   typed_reached (a_sign x) None k ps q ty e j p = parameter_end_reached k _ _ (ap sign_of_word e) (pre_as xs _ _ (parameter_text k ps q ty None) p.0, parameter_fits ps q ty None p.1, p.2)
 
   function_text : (k : Heading) (qs : Parameters) (r : List Leaf) → text_home k.home ((declared (declaration.Function k.at k.gives k.name qs)).leaves (home_nesting k.home) r) ≡ text_header k qs (leaf (a_sign sign.Semicolon) None (home_nesting k.home) ∷ r)
-  function_text k qs r = ap (λ l. text_home k.home l) (returned_then k.at k.gives _ _ r ∙ ap (λ l. leaves_at k.at (returned k.gives) (home_nesting k.home) (leaf (a_name k.name) None (home_nesting k.home) ∷ leaf (a_sign sign.LeftParen) None (home_nesting k.home) ∷ l)) (listed_then qs _ _ r))
+  function_text k qs r = ap (λ l. text_home k.home l) (returned_then k.at k.gives _ _ r ∙ ap (λ l. leaves_at k.at (returned k.gives) (home_nesting k.home) (leaf (a_name k.name.bytes) (Some k.name.at) (home_nesting k.home) ∷ leaf (a_sign sign.LeftParen) None (home_nesting k.home) ∷ l)) (listed_then qs _ _ r))
 
   body_reached : (k : Heading) (qs : Parameters) (h : Home) → k.home ≡ h → sign_of_word t.word ≡ sign.LeftBrace → Reached xs (m.header k qs) → Stepped xs t (m.on_body k qs h)
-  body_reached k qs (m.at_top ps) e w p = (none_at xs t _ (text_unders (m.in_body ps k.at k.gives k.name qs [] ∷ [])) sign.LeftBrace _ w refl p.0 (λ r. sym (ap (λ h. text_home h (leaves_at k.at (returned k.gives) (home_nesting h) (leaf (a_name k.name) None (home_nesting h) ∷ leaf (a_sign sign.LeftParen) None (home_nesting h) ∷ leaves_of (listed qs) (home_nesting h) (leaf (a_sign sign.RightParen) None (home_nesting h) ∷ leaf (a_sign sign.LeftBrace) None 1 ∷ r)))) e)), (subst (λ h. ok_home h) e p.2, p.1, refl))
+  body_reached k qs (m.at_top ps) e w p = (none_at xs t _ (text_unders (m.in_body ps k.at k.gives k.name qs [] ∷ [])) sign.LeftBrace _ w refl p.0 (λ r. sym (ap (λ h. text_home h (leaves_at k.at (returned k.gives) (home_nesting h) (leaf (a_name k.name.bytes) (Some k.name.at) (home_nesting h) ∷ leaf (a_sign sign.LeftParen) None (home_nesting h) ∷ leaves_of (listed qs) (home_nesting h) (leaf (a_sign sign.RightParen) None (home_nesting h) ∷ leaf (a_sign sign.LeftBrace) None 1 ∷ r)))) e)), (subst (λ h. ok_home h) e p.2, p.1, refl))
   body_reached k qs (m.at_block us) e w p = tt
   body_reached k qs (m.at_start at us) e w p = tt
 
@@ -320,7 +332,7 @@ module _ (xs : Taken) (t : Lexeme) where
 
   program_reached : (ps : List External) (s : Sign) → sign_of_word t.word ≡ s → Reached xs (m.program ps) → Stepped xs t (m.on_program t.at s ps)
   program_reached ps sign.Include w p = (some_at xs t _ (λ r. leaves_of (tops (ps ++ external.Include t.at ∷ [])) 0 r) sign.Include _ w refl p.0 (λ r. tops_snoc ps (external.Include t.at) r), tops_fit ps (external.Include t.at) p.1 refl)
-  program_reached ps sign.End w p = (none_at xs t _ _ sign.End _ w refl p.0 (λ r. refl), p.1, (xs, t, refl, word_is t.word sign.End w refl))
+  program_reached ps sign.End w p = (some_at xs t _ _ sign.End _ w refl p.0 (λ r. refl), p.1, (xs, t, refl, word_is t.word sign.End w refl))
   program_reached ps s w p = declaration_reached s (type_of s) (m.at_top ps) None w refl p.0 p.1 tt
 
   -- ---- each step
@@ -332,13 +344,6 @@ module _ (xs : Taken) (t : Lexeme) where
   -- the word that was expected
   expected : (s : Sign) (n : ℕ) (a : State) → m.is_sign t.word s ≡ true → ((p : At) → Reached (signed xs s n p) a) → Reached (xs ++ (t, n) ∷ []) a
   expected s n a h p = let same : lex (a_sign s) t.at ≡ t = λ i. record { word = sym (is_word t.word s h) i; at = t.at } in subst (λ l. Reached (xs ++ (l, n) ∷ []) a) same (p t.at)
-    where
-      is_word : (w : Word) (s : Sign) → m.is_sign w s ≡ true → w ≡ a_sign s
-      is_word (a_sign sign.End) s e = absurd cc
-      is_word (a_sign x) s e = ap a_sign (same_true the_type (search rules) x s e)
-      is_word (a_name n) s e = absurd cc
-      is_word (a_number v d u) s e = absurd cc
-      is_word (a_character v) s e = absurd cc
 
   pub stepped : (s : State) → Reached xs s → Stepped xs t (step s t)
   stepped (operand fs u) p = operand_reached xs t t.word fs u refl p.0 p.1
@@ -352,9 +357,10 @@ module _ (xs : Taken) (t : Lexeme) where
   stepped (got x us) p = settled us x _ refl p.1 (record { text = p.0; level = omega (arith, leb-true 2 (about_statement x).level (and_parts _ _ p.2).0, word_max (sign_of_word t.word)); fits = (and_parts (nat_le 2 (about_statement x).level) (about_statement x).fits p.2).1 })
   stepped (m.for_first at us) p = first_reached at us _ refl p
   stepped (m.declaring at g h) p = more_reached at g t.word _ h refl refl p
-  stepped (m.declared at g q n h) p = declared_reached at g q n h _ refl p
+  stepped (m.declared at g n h) p = declared_reached at g n h _ refl p
   stepped (m.item_named i) p = item_named_reached i _ refl p
   stepped (m.item_sized i z) p = sized_reached i z _ refl p
+  stepped (m.item_valued i z) p = valued_reached i z p
   stepped (m.item_ended at ty is h) p = ended_reached xs t at ty is h _ refl p
   stepped (m.item_next at ty is h) p = next_item_reached t.word at ty is h refl p
   stepped (m.parameters_first k) p = parameters_reached k _ refl p
@@ -363,4 +369,4 @@ module _ (xs : Taken) (t : Lexeme) where
   stepped (m.parameter_next k ps) p = parameter_reached _ _ k ps refl refl p
   stepped (m.header k qs) p = header_reached k qs _ refl p
   stepped (m.program ps) p = program_reached ps _ refl p
-  stepped (m.finished ps) p = tt
+  stepped (m.finished q) p = tt

@@ -136,7 +136,7 @@ pub item_text : (i : Naming) (z : Size) (v : Initialiser) (r : List Leaf) → te
 item_text i z v r = ap (λ l. text_type i.at i.words i.home l) (
     ap (λ ps. leaves_of ps (home_nesting i.home) r) (sym (append-nil (commas piece (map declarator (i.done ++ item_of i z v ∷ [])))) ∙ trail_last object declarator piece (λ x. refl) i.done (item_of i z v) [])
     ∙ trail_pieces declarator i.done (object (item_of i z v) ∷ []) (home_nesting i.home) r
-    ∙ ap (λ l. leaves_of (trail object i.done) (home_nesting i.home) (leaf (a_name i.name) (Some i.item_at) (home_nesting i.home) ∷ l)) (sized_then z (initialised v) (home_nesting i.home) r))
+    ∙ ap (λ l. leaves_of (trail object i.done) (home_nesting i.home) (leaf (a_name i.name.bytes) (Some i.name.at) (home_nesting i.home) ∷ l)) (sized_then z (initialised v) (home_nesting i.home) r))
 
 item_fits : (i : Naming) (z : Size) (v : Initialiser) → all_fit (trail object i.done) ≡ true → all_fit (sized z) ≡ true → all_fit (initialised v) ≡ true → all_fit (some (i.done ++ item_of i z v ∷ []) ∷ commas piece (map declarator (i.done ++ item_of i z v ∷ []))) ≡ true
 item_fits i z v h k l = any i.done (ap all_fit (sym (append-nil (commas piece (map declarator (i.done ++ item_of i z v ∷ [])))) ∙ trail_last object declarator piece (λ x. refl) i.done (item_of i z v) []) ∙ fit_append (trail object i.done) (object (item_of i z v) ∷ []) h (and_from (declarator (item_of i z v)).fits true (fit_append (sized z) (initialised v) k l) refl))
@@ -179,7 +179,7 @@ pub add_reached : (xs : Taken) (x : Statement) (us : List Under) → Pre xs (λ 
 add_reached xs x [] p fx ok h = absurd cc
 add_reached xs x (m.in_block at ss ∷ us) p fx ok h = (pre_as xs _ (text_unders (m.in_block at (ss ++ x ∷ []) ∷ us)) (λ r. ap (λ l. text_unders us (leaf (a_sign sign.LeftBrace) (Some at) (suc (suc (inside us))) ∷ l)) (items_snoc ss x _ r)) p, (items_fit ss x ok.0 fx, ok.1))
 add_reached xs x (m.in_switch at e ss ∷ us) p fx ok h = (pre_as xs _ (text_unders (m.in_switch at e (ss ++ x ∷ []) ∷ us)) (λ r. ap (λ l. text_unders us (leaves_at at (the_sign sign.Switch ∷ condition e []) (suc (inside us)) (leaf (a_sign sign.LeftBrace) None (suc (behind (suc (inside us)) (about e))) ∷ l))) (items_snoc ss x _ r)) p, (ok.0, items_fit ss x ok.1 fx, ok.2))
-add_reached xs x (m.in_body ps at g n qs ss ∷ us) p fx ok h = (pre_as xs _ (text_unders (m.in_body ps at g n qs (ss ++ x ∷ []) ∷ us)) (λ r. ap (λ l. leaves_of (tops ps) 0 (leaves_at at (returned g) 0 (leaf (a_name n) None 0 ∷ leaf (a_sign sign.LeftParen) None 0 ∷ leaves_of (listed qs) 0 (leaf (a_sign sign.RightParen) None 0 ∷ leaf (a_sign sign.LeftBrace) None 1 ∷ l)))) (items_snoc ss x 1 r)) p, (ok.0, ok.1, items_fit ss x ok.2 fx))
+add_reached xs x (m.in_body ps at g n qs ss ∷ us) p fx ok h = (pre_as xs _ (text_unders (m.in_body ps at g n qs (ss ++ x ∷ []) ∷ us)) (λ r. ap (λ l. leaves_of (tops ps) 0 (leaves_at at (returned g) 0 (leaf (a_name n.bytes) (Some n.at) 0 ∷ leaf (a_sign sign.LeftParen) None 0 ∷ leaves_of (listed qs) 0 (leaf (a_sign sign.RightParen) None 0 ∷ leaf (a_sign sign.LeftBrace) None 1 ∷ l)))) (items_snoc ss x 1 r)) p, (ok.0, ok.1, items_fit ss x ok.2 fx))
 add_reached xs x (_ ∷ us) p fx ok h = absurd cc
 
 pub declared_entry : (d : Declaration) (n : ℕ) → entry n (declared d) ≡ n
@@ -305,35 +305,35 @@ module _ (xs : Taken) (t : Lexeme) where
   -- ---- the ends of expressions
 
   -- the values of a list, and a comma
-  value_after_reached : (n : ℕ) (i : Naming) (z : Size) (es : List Expr) (e : Expr) → Pre (xs ++ (t, n) ∷ []) (text_use (m.list_ i z (es ++ e ∷ []))) → ok_use (m.list_ i z (es ++ e ∷ [])) → Reached (xs ++ (t, n) ∷ []) (value_after i z (es ++ e ∷ []))
-  value_after_reached n i z es e p ok = (
-    (λ q. item_end_reached (signed (xs ++ (t, n) ∷ []) sign.RightBrace _ q) i z (initialiser.List (es ++ e ∷ []) true)
-        (by_sign (xs ++ (t, n) ∷ []) (text_use (m.list_ i z (es ++ e ∷ []))) _ sign.RightBrace _ q p (λ r. ap (λ l. text_naming i (leaves_of (sized z) (home_nesting i.home) l)) (listed_text es r))) ok.0 (listed_fit es ok.1) ok.2),
+  value_after_reached : (n : ℕ) (i : Naming) (z : Size) (at : At) (es : List Expr) (e : Expr) → Pre (xs ++ (t, n) ∷ []) (text_use (m.list_ i z at (es ++ e ∷ []))) → ok_use (m.list_ i z at (es ++ e ∷ [])) → Reached (xs ++ (t, n) ∷ []) (value_after i z at (es ++ e ∷ []))
+  value_after_reached n i z at es e p ok = (
+    (λ q. item_end_reached (signed (xs ++ (t, n) ∷ []) sign.RightBrace _ q) i z (initialiser.List at (es ++ e ∷ []) true)
+        (by_sign (xs ++ (t, n) ∷ []) (text_use (m.list_ i z at (es ++ e ∷ []))) _ sign.RightBrace _ q p (λ r. ap (λ l. text_naming i (leaves_of (sized z) (home_nesting i.home) l)) (listed_text es r))) ok.0 (listed_fit es ok.1) ok.2),
     (p, ok),
   )
     where
-      listed_text : (es : List Expr) (r : List Leaf) → leaves_of (initialised (initialiser.List (es ++ e ∷ []) true)) (home_nesting i.home) r
-          ≡ leaf (a_sign sign.Assign) None (home_nesting i.home) ∷ leaf (a_sign sign.LeftBrace) None (home_nesting i.home) ∷ leaves_of (trail argument (es ++ e ∷ [])) (home_nesting i.home) (leaf (a_sign sign.RightBrace) None (home_nesting i.home) ∷ r)
+      listed_text : (es : List Expr) (r : List Leaf) → leaves_of (initialised (initialiser.List at (es ++ e ∷ []) true)) (home_nesting i.home) r
+          ≡ leaf (a_sign sign.Assign) None (home_nesting i.home) ∷ leaf (a_sign sign.LeftBrace) (Some at) (home_nesting i.home) ∷ leaves_of (trail argument (es ++ e ∷ [])) (home_nesting i.home) (leaf (a_sign sign.RightBrace) None (home_nesting i.home) ∷ r)
       listed_text [] r = refl
-      listed_text (x ∷ es) r = ap (λ l. leaf (a_sign sign.Assign) None (home_nesting i.home) ∷ leaf (a_sign sign.LeftBrace) None (home_nesting i.home) ∷ l) (values_trail x (es ++ e ∷ []) (the_sign sign.RightBrace ∷ []) (home_nesting i.home) r)
+      listed_text (x ∷ es) r = ap (λ l. leaf (a_sign sign.Assign) None (home_nesting i.home) ∷ leaf (a_sign sign.LeftBrace) (Some at) (home_nesting i.home) ∷ l) (values_trail x (es ++ e ∷ []) (the_sign sign.RightBrace ∷ []) (home_nesting i.home) r)
 
-      listed_fit : (es : List Expr) → all_fit (trail argument (es ++ e ∷ [])) ≡ true → all_fit (initialised (initialiser.List (es ++ e ∷ []) true)) ≡ true
+      listed_fit : (es : List Expr) → all_fit (trail argument (es ++ e ∷ [])) ≡ true → all_fit (initialised (initialiser.List at (es ++ e ∷ []) true)) ≡ true
       listed_fit [] h = h
       listed_fit (x ∷ es) h = values_fit x (es ++ e ∷ []) h
 
-  last_value : (i : Naming) (z : Size) (es : List Expr) (e : Expr) (r : List Leaf) → leaves_of (initialised (initialiser.List (es ++ e ∷ []) false)) (home_nesting i.home) r
-      ≡ leaf (a_sign sign.Assign) None (home_nesting i.home) ∷ leaf (a_sign sign.LeftBrace) None (home_nesting i.home) ∷ leaves_of (trail argument es) (home_nesting i.home) ((about e).leaves (suc (home_nesting i.home)) (leaf (a_sign sign.RightBrace) None (home_nesting i.home) ∷ r))
-  last_value i z es e r = some_list es ∙ ap (λ l. leaf (a_sign sign.Assign) None (home_nesting i.home) ∷ leaf (a_sign sign.LeftBrace) None (home_nesting i.home) ∷ l)
+  last_value : (i : Naming) (z : Size) (at : At) (es : List Expr) (e : Expr) (r : List Leaf) → leaves_of (initialised (initialiser.List at (es ++ e ∷ []) false)) (home_nesting i.home) r
+      ≡ leaf (a_sign sign.Assign) None (home_nesting i.home) ∷ leaf (a_sign sign.LeftBrace) (Some at) (home_nesting i.home) ∷ leaves_of (trail argument es) (home_nesting i.home) ((about e).leaves (suc (home_nesting i.home)) (leaf (a_sign sign.RightBrace) None (home_nesting i.home) ∷ r))
+  last_value i z at es e r = some_list es ∙ ap (λ l. leaf (a_sign sign.Assign) None (home_nesting i.home) ∷ leaf (a_sign sign.LeftBrace) (Some at) (home_nesting i.home) ∷ l)
       (ap (λ ps. leaves_of ps (home_nesting i.home) r) (trail_last argument about assign (λ x. refl) es e (the_sign sign.RightBrace ∷ [])) ∙ trail_leaves about 1 es (argument e ∷ the_sign sign.RightBrace ∷ []) (home_nesting i.home) r)
     where
-      some_list : (es : List Expr) → leaves_of (initialised (initialiser.List (es ++ e ∷ []) false)) (home_nesting i.home) r ≡ leaf (a_sign sign.Assign) None (home_nesting i.home) ∷ leaf (a_sign sign.LeftBrace) None (home_nesting i.home) ∷ leaves_of (commas assign (map about (es ++ e ∷ [])) ++ the_sign sign.RightBrace ∷ []) (home_nesting i.home) r
+      some_list : (es : List Expr) → leaves_of (initialised (initialiser.List at (es ++ e ∷ []) false)) (home_nesting i.home) r ≡ leaf (a_sign sign.Assign) None (home_nesting i.home) ∷ leaf (a_sign sign.LeftBrace) (Some at) (home_nesting i.home) ∷ leaves_of (commas assign (map about (es ++ e ∷ [])) ++ the_sign sign.RightBrace ∷ []) (home_nesting i.home) r
       some_list [] = refl
       some_list (x ∷ es) = refl
 
-  last_value_fit : (es : List Expr) (e : Expr) → all_fit (trail argument es) ≡ true → stands 1 (about e) ≡ true → all_fit (initialised (initialiser.List (es ++ e ∷ []) false)) ≡ true
-  last_value_fit es e h k = some_list es (ap all_fit (trail_last argument about assign (λ x. refl) es e (the_sign sign.RightBrace ∷ [])) ∙ fit_append (trail argument es) (argument e ∷ the_sign sign.RightBrace ∷ []) h (and_from _ _ k refl))
+  last_value_fit : (at : At) (es : List Expr) (e : Expr) → all_fit (trail argument es) ≡ true → stands 1 (about e) ≡ true → all_fit (initialised (initialiser.List at (es ++ e ∷ []) false)) ≡ true
+  last_value_fit at es e h k = some_list es (ap all_fit (trail_last argument about assign (λ x. refl) es e (the_sign sign.RightBrace ∷ [])) ∙ fit_append (trail argument es) (argument e ∷ the_sign sign.RightBrace ∷ []) h (and_from _ _ k refl))
     where
-      some_list : (es : List Expr) → all_fit (commas assign (map about (es ++ e ∷ [])) ++ the_sign sign.RightBrace ∷ []) ≡ true → all_fit (initialised (initialiser.List (es ++ e ∷ []) false)) ≡ true
+      some_list : (es : List Expr) → all_fit (commas assign (map about (es ++ e ∷ [])) ++ the_sign sign.RightBrace ∷ []) ≡ true → all_fit (initialised (initialiser.List at (es ++ e ∷ []) false)) ≡ true
       some_list [] h = h
       some_list (x ∷ es) h = h
 
@@ -370,12 +370,12 @@ module _ (xs : Taken) (t : Lexeme) where
   use_reached (m.next_ at b x us) e sign.RightParen w p = (none_at _ (text_unders (m.in_for at b x (Some e) ∷ us)) sign.RightParen _ w refl p.0 (for_last at us b x e), (fit_append (started b) _ p.1.frames.0 (fit_append (maybe x) _ p.1.frames.1 (and_from _ _ p.1.fits refl)), p.1.frames.2))
   use_reached (m.size_ i) e sign.RightBracket w p = (none_at _ (λ r. text_naming i (leaves_of (sized (size.Given e)) (home_nesting i.home) r)) sign.RightBracket _ w refl p.0 (λ r. refl), and_from _ _ (stands_it 2 (about e) p.1.level p.1.fits) refl, p.1.frames)
   use_reached (m.value_ i z) e s w p = item_end_step i z (initialiser.Value e) s w p.0 p.1.frames.0 (and_from _ _ (stands_it 1 (about e) p.1.level p.1.fits) refl) p.1.frames.1
-  use_reached (m.list_ i z es) e sign.Comma w p = value_after_reached (home_nesting i.home) i z es e
-      (none_at _ (text_use (m.list_ i z (es ++ e ∷ []))) sign.Comma _ w refl p.0 (λ r. ap (λ l. text_naming i (leaves_of (sized z) (home_nesting i.home) (leaf (a_sign sign.Assign) None (home_nesting i.home) ∷ leaf (a_sign sign.LeftBrace) None (home_nesting i.home) ∷ l))) (ap (λ ps. leaves_of ps (home_nesting i.home) r) (sym (append-nil (trail argument (es ++ e ∷ []))) ∙ trail_snoc argument es e []) ∙ trail_leaves about 1 es (argument e ∷ the_sign sign.Comma ∷ []) (home_nesting i.home) r)))
+  use_reached (m.list_ i z at es) e sign.Comma w p = value_after_reached (home_nesting i.home) i z at es e
+      (none_at _ (text_use (m.list_ i z at (es ++ e ∷ []))) sign.Comma _ w refl p.0 (λ r. ap (λ l. text_naming i (leaves_of (sized z) (home_nesting i.home) (leaf (a_sign sign.Assign) None (home_nesting i.home) ∷ leaf (a_sign sign.LeftBrace) (Some at) (home_nesting i.home) ∷ l))) (ap (λ ps. leaves_of ps (home_nesting i.home) r) (sym (append-nil (trail argument (es ++ e ∷ []))) ∙ trail_snoc argument es e []) ∙ trail_leaves about 1 es (argument e ∷ the_sign sign.Comma ∷ []) (home_nesting i.home) r)))
       (p.1.frames.0, (ap all_fit (sym (append-nil (trail argument (es ++ e ∷ []))) ∙ trail_snoc argument es e []) ∙ fit_append (trail argument es) (argument e ∷ the_sign sign.Comma ∷ []) p.1.frames.1 (and_from _ _ (stands_it 1 (about e) p.1.level p.1.fits) refl)), p.1.frames.2)
-  use_reached (m.list_ i z es) e sign.RightBrace w p = item_end_reached (xs ++ (t, home_nesting i.home) ∷ []) i z (initialiser.List (es ++ e ∷ []) false)
-      (none_at _ (λ r. text_naming i (leaves_of (sized z) (home_nesting i.home) (leaves_of (initialised (initialiser.List (es ++ e ∷ []) false)) (home_nesting i.home) r))) sign.RightBrace _ w refl p.0 (λ r. ap (λ l. text_naming i (leaves_of (sized z) (home_nesting i.home) l)) (last_value i z es e r)))
-      p.1.frames.0 (last_value_fit es e p.1.frames.1 (stands_it 1 (about e) p.1.level p.1.fits)) p.1.frames.2
+  use_reached (m.list_ i z at es) e sign.RightBrace w p = item_end_reached (xs ++ (t, home_nesting i.home) ∷ []) i z (initialiser.List at (es ++ e ∷ []) false)
+      (none_at _ (λ r. text_naming i (leaves_of (sized z) (home_nesting i.home) (leaves_of (initialised (initialiser.List at (es ++ e ∷ []) false)) (home_nesting i.home) r))) sign.RightBrace _ w refl p.0 (λ r. ap (λ l. text_naming i (leaves_of (sized z) (home_nesting i.home) l)) (last_value i z at es e r)))
+      p.1.frames.0 (last_value_fit at es e p.1.frames.1 (stands_it 1 (about e) p.1.level p.1.fits)) p.1.frames.2
   use_reached _ e _ w p = tt
 
   -- ---- the next word behind an expression

@@ -9,6 +9,7 @@ use Rattle.c_tree.specs.declared.syntax.Expr.TheVariants as tree
 use Rattle.c_tree.specs.declared.syntax.Size.{Size}
 use Rattle.c_tree.specs.declared.syntax.Size.TheVariants as size
 use Rattle.c_tree.specs.declared.syntax.Initialiser.TheVariants as initialiser
+use Rattle.c_tree.specs.declared.syntax.Identifier.{Identifier}
 use Rattle.c_tree.specs.declared.syntax.Item.{Item}
 use Rattle.c_tree.specs.declared.syntax.Return.{Return}
 use Rattle.c_tree.specs.declared.syntax.Return.TheVariants as gives
@@ -20,7 +21,7 @@ use Rattle.c_tree.specs.declared.syntax.Declaration.TheVariants as declaration
 use Rattle.c_grammar.specs.declared.sign.Sign.{Sign}
 use Rattle.c_grammar.specs.declared.sign.Sign.TheVariants as sign
 use Rattle.c_grammar.specs.Words.{a_name, a_sign, Lexeme}
-use Rattle.c_grammar.specs.Phrases.{Leaf, leaf, Said, behind, leaves_of, leaves_at, open_, the_sign}
+use Rattle.c_grammar.specs.Phrases.{Leaf, leaf, Said, behind, leaves_of, leaves_at, all_fit, open_, placed, the_sign}
 use Rattle.c_grammar.specs.Grammar.{about, about_statement, part, program}
 use Rattle.c_tree.specs.declared.syntax.Start.{Start}
 use Rattle.c_tree.specs.declared.syntax.Start.TheVariants as start
@@ -62,27 +63,43 @@ spelt_front (x ∷ xs) ys (l ∷ ls) h = let k = spelt_front xs ys ls h.3 in (l 
 pub fewer : (xs ys : Taken) → Done (xs ++ ys) → Done xs
 fewer xs ys d = let k = spelt_front xs ys d.leaves d.spells in record { tree = d.tree; leaves = k.0; rest = k.1 ++ d.rest; split = d.split ∙ ap (λ l. l ++ d.rest) k.2 ∙ append_assoc k.0 k.1 d.rest; spells = k.3; fits = d.fits }
 
-some_at_all : At
-some_at_all = record { line = 1; column = 1 }
+abbrev some_place : At
+some_place = record { line = 1; column = 1 }
 
 abbrev sign_token : Sign → Lexeme
 sign_token s = lex (a_sign s) (record { line = 1; column = 1 })
 
+abbrev no_name : Identifier
+no_name = record { at = record { line = 1; column = 1 }; bytes = [] }
+
 abbrev name_token : Lexeme
 name_token = lex (a_name []) (record { line = 1; column = 1 })
 
-pub each_end : (ps : List External) (r : List Leaf) → leaves_of (tops ps ++ the_sign sign.End ∷ []) 0 r ≡ leaves_of (tops ps) 0 (leaf (a_sign sign.End) None 0 ∷ r)
-each_end ps r = go ps
+abbrev pub end_leaf : At → Leaf
+end_leaf at = leaf (a_sign sign.End) (Some at) 0
+
+pub each_end : (ps : List External) (at : At) (r : List Leaf) → leaves_of (tops ps ++ placed at (a_sign sign.End) ∷ []) 0 r ≡ leaves_of (tops ps) 0 (end_leaf at ∷ r)
+each_end ps at r = go ps
   where
-    go : (ps : List External) → leaves_of (tops ps ++ the_sign sign.End ∷ []) 0 r ≡ leaves_of (tops ps) 0 (leaf (a_sign sign.End) None 0 ∷ r)
+    go : (ps : List External) → leaves_of (tops ps ++ placed at (a_sign sign.End) ∷ []) 0 r ≡ leaves_of (tops ps) 0 (end_leaf at ∷ r)
     go [] = refl
     go (x ∷ ps) = ap (λ l. (part x).leaves 0 l) (go ps)
 
-done_program : (xs : Taken) (ps : List External) → Reached xs (m.program ps) → Done xs
-done_program xs ps p = record { tree = record { parts = ps }; leaves = p.0.leaves; rest = leaf (a_sign sign.End) None 0 ∷ []; split = each_end ps [] ∙ p.0.is (leaf (a_sign sign.End) None 0 ∷ []); spells = p.0.spells; fits = fit_append (tops ps) (the_sign sign.End ∷ []) p.1 refl }
+pub end_fit : (ps : List External) (at : At) → all_fit (tops ps) ≡ true → all_fit (tops ps ++ placed at (a_sign sign.End) ∷ []) ≡ true
+end_fit ps at h = fit_append (tops ps) (placed at (a_sign sign.End) ∷ []) h refl
 
-done_finished : (xs : Taken) (ps : List External) → Reached xs (m.finished ps) → Done xs
-done_finished xs ps p = record { tree = record { parts = ps }; leaves = p.0.leaves; rest = []; split = each_end ps [] ∙ p.0.is []; spells = p.0.spells; fits = fit_append (tops ps) (the_sign sign.End ∷ []) p.1 refl }
+done_program : (xs : Taken) (ps : List External) → Reached xs (m.program ps) → Done xs
+done_program xs ps p = record {
+  tree = record { parts = ps; end = some_place };
+  leaves = p.0.leaves;
+  rest = end_leaf some_place ∷ [];
+  split = each_end ps some_place [] ∙ p.0.is (end_leaf some_place ∷ []);
+  spells = p.0.spells;
+  fits = end_fit ps some_place p.1;
+}
+
+done_finished : (xs : Taken) (a : Syntax) → Reached xs (m.finished a) → Done xs
+done_finished xs a p = record { tree = a; leaves = p.0.leaves; rest = []; split = each_end a.parts a.end [] ∙ p.0.is []; spells = p.0.spells; fits = end_fit a.parts a.end p.1 }
 
 -- one more word
 next : (xs : Taken) (t : Lexeme) (s : State) → Reached xs s → Stepped xs t (step s t)
@@ -170,17 +187,17 @@ done_parameter_end xs k ps p = fewer xs ((sign_token sign.RightParen, home_nesti
 
 done_parameter : (xs : Taken) (k : Heading) (ps : List Parameter) (at : At) (ty : TypeWords) → Reached xs (m.parameter_typed k ps at ty) → Done xs
 done_parameter xs k ps at ty p =
-    let qs : List Parameter = ps ++ record { at = at; words = ty; name = Some [] } ∷ [] in
-    fewer xs ((name_token, home_nesting k.home) ∷ []) (done_parameter_end (xs ++ (name_token, home_nesting k.home) ∷ []) k qs (subst (λ y. Stepped xs name_token (m.on_typed (a_name []) y k ps at ty)) (joined_other ty) (next xs name_token (m.parameter_typed k ps at ty) p)))
+    let qs : List Parameter = ps ++ record { at = at; words = ty; name = Some no_name } ∷ [] in
+    fewer xs ((name_token, home_nesting k.home) ∷ []) (done_parameter_end (xs ++ (name_token, home_nesting k.home) ∷ []) k qs (subst (λ y. Stepped xs name_token (m.on_typed (record { line = 1; column = 1 }) (a_name []) y k ps at ty)) (joined_other ty) (next xs name_token (m.parameter_typed k ps at ty) p)))
 
 done_parameter_next : (xs : Taken) (k : Heading) (ps : List Parameter) → Reached xs (m.parameter_next k ps) → Done xs
 done_parameter_next xs k ps p = fewer xs ((sign_token sign.Int, home_nesting k.home) ∷ []) (done_parameter (xs ++ (sign_token sign.Int, home_nesting k.home) ∷ []) k ps (record { line = 1; column = 1 }) words.Int (next xs (sign_token sign.Int) (m.parameter_next k ps) p))
 
-done_declared : (xs : Taken) (at : At) (g : Return) (q : At) (n : List ℕ) (h : Home) → Reached xs (m.declared at g q n h) → Done xs
-done_declared xs at g q n h p = fewer xs ((sign_token sign.LeftParen, home_nesting h) ∷ []) (done_parameters (xs ++ (sign_token sign.LeftParen, home_nesting h) ∷ []) (record { at = at; gives = g; name = n; home = h }) (next xs (sign_token sign.LeftParen) (m.declared at g q n h) p))
+done_declared : (xs : Taken) (at : At) (g : Return) (n : Identifier) (h : Home) → Reached xs (m.declared at g n h) → Done xs
+done_declared xs at g n h p = fewer xs ((sign_token sign.LeftParen, home_nesting h) ∷ []) (done_parameters (xs ++ (sign_token sign.LeftParen, home_nesting h) ∷ []) (record { at = at; gives = g; name = n; home = h }) (next xs (sign_token sign.LeftParen) (m.declared at g n h) p))
 
 done_declaring : (xs : Taken) (at : At) (g : Return) (h : Home) → Reached xs (m.declaring at g h) → Done xs
-done_declaring xs at g h p = fewer xs ((name_token, home_nesting h) ∷ []) (done_declared (xs ++ (name_token, home_nesting h) ∷ []) at g (record { line = 1; column = 1 }) [] h (subst (λ y. Stepped xs name_token (m.on_declaring (record { line = 1; column = 1 }) at g (a_name []) y h)) (no_more g) (next xs name_token (m.declaring at g h) p)))
+done_declaring xs at g h p = fewer xs ((name_token, home_nesting h) ∷ []) (done_declared (xs ++ (name_token, home_nesting h) ∷ []) at g no_name h (subst (λ y. Stepped xs name_token (m.on_declaring (record { line = 1; column = 1 }) at g (a_name []) y h)) (no_more g) (next xs name_token (m.declaring at g h) p)))
   where
     no_more : (g : Return) → m.more_words g sign.Other ≡ None
     no_more gives.Void = refl
@@ -193,7 +210,7 @@ done_named : (xs : Taken) (i : Naming) → Reached xs (m.item_named i) → Done 
 done_named xs i p = done_sized xs i size.Scalar (p.0, refl, p.1)
 
 done_next_item : (xs : Taken) (at : At) (ty : TypeWords) (is : List Item) (h : Home) → Reached xs (m.item_next at ty is h) → Done xs
-done_next_item xs at ty is h p = fewer xs ((name_token, home_nesting h) ∷ []) (done_named (xs ++ (name_token, home_nesting h) ∷ []) (record { at = at; words = ty; done = is; home = h; item_at = record { line = 1; column = 1 }; name = [] }) (next xs name_token (m.item_next at ty is h) p))
+done_next_item xs at ty is h p = fewer xs ((name_token, home_nesting h) ∷ []) (done_named (xs ++ (name_token, home_nesting h) ∷ []) (record { at = at; words = ty; done = is; home = h; name = no_name }) (next xs name_token (m.item_next at ty is h) p))
 
 -- an expression that is read for a use
 done_use : (u : Use) (xs : Taken) (e : Expr) → Reached xs (have e [] u) → Done xs
@@ -217,7 +234,7 @@ done_use (m.test_ at b us) xs e p = let t : Lexeme × ℕ = (sign_token sign.Sem
 done_use (m.next_ at b y us) xs e p = let t : Lexeme × ℕ = (sign_token sign.RightParen, behind (maybe_behind (start_behind (suc (inside us)) b) y) (about e)) in fewer xs (t ∷ []) (done_want (xs ++ t ∷ []) (m.in_for at b y (Some e) ∷ us) (next xs t.0 (have e [] (m.next_ at b y us)) p))
 done_use (m.size_ i) xs e p = let t : Lexeme × ℕ = (sign_token sign.RightBracket, home_nesting i.home) in fewer xs (t ∷ []) (done_sized (xs ++ t ∷ []) i (size.Given e) (next xs t.0 (have e [] (m.size_ i)) p))
 done_use (m.value_ i z) xs e p = let t : Lexeme × ℕ = (sign_token sign.Semicolon, home_nesting i.home) in fewer xs (t ∷ []) (done_conclude (xs ++ t ∷ []) i.home (declaration.Objects i.at i.words (i.done ++ item_of i z (initialiser.Value e) ∷ [])) (next xs t.0 (have e [] (m.value_ i z)) p))
-done_use (m.list_ i z es) xs e p = let t : Lexeme × ℕ = (sign_token sign.RightBrace, home_nesting i.home) in fewer xs (t ∷ []) (done_ended (xs ++ t ∷ []) i.at i.words (i.done ++ item_of i z (initialiser.List (es ++ e ∷ []) false) ∷ []) i.home (next xs t.0 (have e [] (m.list_ i z es)) p))
+done_use (m.list_ i z at es) xs e p = let t : Lexeme × ℕ = (sign_token sign.RightBrace, home_nesting i.home) in fewer xs (t ∷ []) (done_ended (xs ++ t ∷ []) i.at i.words (i.done ++ item_of i z (initialiser.List at (es ++ e ∷ []) false) ∷ []) i.home (next xs t.0 (have e [] (m.list_ i z at es)) p))
 
 -- an expression in what lacks one
 done_have : (fs : List Frame) (u : Use) (xs : Taken) (e : Expr) → Reached xs (have e fs u) → Done xs
@@ -255,9 +272,10 @@ done (want us) xs p = done_want xs us p
 done (got x us) xs p = done_got xs x us p
 done (m.for_first at us) xs p = done_operand xs [] (m.start_ at us) p
 done (m.declaring at g h) xs p = done_declaring xs at g h p
-done (m.declared at g q n h) xs p = done_declared xs at g q n h p
+done (m.declared at g n h) xs p = done_declared xs at g n h p
 done (m.item_named i) xs p = done_named xs i p
 done (m.item_sized i z) xs p = done_sized xs i z p
+done (m.item_valued i z) xs p = done_operand xs [] (m.value_ i z) p
 done (m.item_ended at ty is h) xs p = done_ended xs at ty is h p
 done (m.item_next at ty is h) xs p = done_next_item xs at ty is h p
 done (m.parameters_first k) xs p = done_parameters xs k p
@@ -266,4 +284,4 @@ done (m.parameter_ended k ps) xs p = done_parameter_end xs k ps p
 done (m.parameter_next k ps) xs p = done_parameter_next xs k ps p
 done (m.header k qs) xs p = done_header xs k qs p
 done (m.program ps) xs p = done_program xs ps p
-done (m.finished ps) xs p = done_finished xs ps p
+done (m.finished a) xs p = done_finished xs a p

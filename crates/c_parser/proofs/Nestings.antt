@@ -2,7 +2,6 @@
 use Rattle.std.proofs.Common.{◌⊎◌, inl, inr, ◌≡◌, ℕ, zero, suc, ◌<◌, true, List, [], ◌∷◌, ◌++◌, length, map, get_or, Option, Some, None, Ok, Err, refl, sym, ap, subst, ◌∙◌, append_assoc, arith}
 use Rattle.std.proofs.lemmas.List.{append-nil, length-append, get_or-map, get_or_append_left}
 use Rattle.c_tree.specs.declared.syntax.Syntax.{Syntax}
-use Rattle.c_tree.specs.declared.syntax.External.{External}
 use Rattle.c_grammar.specs.Words.{Lexeme}
 use Rattle.c_grammar.specs.Phrases.{Leaf}
 use Rattle.c_grammar.specs.Grammar.{program}
@@ -24,47 +23,47 @@ nestings [] s = []
 nestings (t ∷ ts) s = then_each (step s t) (nestings ts)
 
 -- what the machine takes from a state to the end of a program
-record Followed (xs : Taken) (ts : List Lexeme) (s : State) (ps : List External) : Type 0 where
+record Followed (xs : Taken) (ts : List Lexeme) (s : State) (p : Syntax) : Type 0 where
   taken : Taken
   nest : nestings ts s ≡ map (λ x. x.1) taken
-  reached : Reached (xs ++ taken) (m.finished ps)
+  reached : Reached (xs ++ taken) (m.finished p)
 
-at_the_end : (xs : Taken) (ts : List Lexeme) (qs ps : List External) → Reaches xs (m.finished qs) → nestings ts (m.finished qs) ≡ [] → okay qs ≡ okay ps → Followed xs ts (m.finished qs) ps
-at_the_end xs ts qs ps r none e = record {
+at_the_end : (xs : Taken) (ts : List Lexeme) (q p : Syntax) → Reaches xs (m.finished q) → nestings ts (m.finished q) ≡ [] → okay q ≡ okay p → Followed xs ts (m.finished q) p
+at_the_end xs ts q p r none e = record {
   taken = [];
   nest = none;
-  reached = subst (λ l. Reached (xs ++ []) (m.finished l)) (ok_same qs ps e) (subst (λ l. Reached l (m.finished qs)) (sym (append-nil xs)) r.reached);
+  reached = subst (λ l. Reached (xs ++ []) (m.finished l)) (ok_same q p e) (subst (λ l. Reached l (m.finished q)) (sym (append-nil xs)) r.reached);
 }
 
-one_on : (ts : List Lexeme) (xs : Taken) (s : State) (t : Lexeme) (ps : List External) → Reaches xs s → at_end s ≡ Err (Wrong 0) → run all (t ∷ ts) s ≡ okay ps → ((n : ℕ) (s2 : State) → step s t ≡ Some (n, s2) → run all ts s2 ≡ okay ps → Followed (xs ++ (t, n) ∷ []) ts s2 ps) → Followed xs (t ∷ ts) s ps
-one_on ts xs s t ps r un e more = onward (step s t) refl (subst (λ a. settled a (moved all (suc (length ts)) (step s t) (run all ts)) ≡ okay ps) un e)
+one_on : (ts : List Lexeme) (xs : Taken) (s : State) (t : Lexeme) (p : Syntax) → Reaches xs s → at_end s ≡ Err (Wrong 0) → run all (t ∷ ts) s ≡ okay p → ((n : ℕ) (s2 : State) → step s t ≡ Some (n, s2) → run all ts s2 ≡ okay p → Followed (xs ++ (t, n) ∷ []) ts s2 p) → Followed xs (t ∷ ts) s p
+one_on ts xs s t p r un e more = onward (step s t) refl (subst (λ a. settled a (moved all (suc (length ts)) (step s t) (run all ts)) ≡ okay p) un e)
   where
-    onward : (x : Next) → step s t ≡ x → moved all (suc (length ts)) x (run all ts) ≡ okay ps → Followed xs (t ∷ ts) s ps
+    onward : (x : Next) → step s t ≡ x → moved all (suc (length ts)) x (run all ts) ≡ okay p → Followed xs (t ∷ ts) s p
     onward None is h = absurd cc
     onward (Some x) is h = let f = more x.0 x.1 is h in record {
       taken = (t, x.0) ∷ f.taken;
       nest = ap (λ y. then_each y (nestings ts)) is ∙ ap (λ l. x.0 ∷ l) f.nest;
-      reached = subst (λ l. Reached l (m.finished ps)) (append_assoc xs ((t, x.0) ∷ []) f.taken) f.reached;
+      reached = subst (λ l. Reached l (m.finished p)) (append_assoc xs ((t, x.0) ∷ []) f.taken) f.reached;
     }
 
-follow_on : (ts : List Lexeme) (xs : Taken) (s : State) (t : Lexeme) (ps : List External) → Reaches xs s → ((qs : List External) × (s ≡ m.finished qs)) ⊎ (at_end s ≡ Err (Wrong 0)) → run all (t ∷ ts) s ≡ okay ps → ((n : ℕ) (s2 : State) → step s t ≡ Some (n, s2) → run all ts s2 ≡ okay ps → Followed (xs ++ (t, n) ∷ []) ts s2 ps) → Followed xs (t ∷ ts) s ps
-follow_on ts xs s t ps r (inr un) e more = one_on ts xs s t ps r un e more
-follow_on ts xs s t ps r (inl f) e more =
-    subst (λ z. Followed xs (t ∷ ts) z ps) (sym f.1)
-    (at_the_end xs (t ∷ ts) f.0 ps (subst (λ z. Reaches xs z) f.1 r) refl (let h : run all (t ∷ ts) (m.finished f.0) ≡ okay ps = subst (λ z. run all (t ∷ ts) z ≡ okay ps) f.1 e in h))
+follow_on : (ts : List Lexeme) (xs : Taken) (s : State) (t : Lexeme) (p : Syntax) → Reaches xs s → ((q : Syntax) × (s ≡ m.finished q)) ⊎ (at_end s ≡ Err (Wrong 0)) → run all (t ∷ ts) s ≡ okay p → ((n : ℕ) (s2 : State) → step s t ≡ Some (n, s2) → run all ts s2 ≡ okay p → Followed (xs ++ (t, n) ∷ []) ts s2 p) → Followed xs (t ∷ ts) s p
+follow_on ts xs s t p r (inr un) e more = one_on ts xs s t p r un e more
+follow_on ts xs s t p r (inl f) e more =
+    subst (λ z. Followed xs (t ∷ ts) z p) (sym f.1)
+    (at_the_end xs (t ∷ ts) f.0 p (subst (λ z. Reaches xs z) f.1 r) refl (let h : run all (t ∷ ts) (m.finished f.0) ≡ okay p = subst (λ z. run all (t ∷ ts) z ≡ okay p) f.1 e in h))
 
-follow_nothing : (xs : Taken) (s : State) (ps : List External) → Reaches xs s → ((qs : List External) × (s ≡ m.finished qs)) ⊎ (at_end s ≡ Err (Wrong 0)) → at_end s ≡ okay ps → Followed xs [] s ps
-follow_nothing xs s ps r (inr un) e = absurd (apart (sym un ∙ e))
+follow_nothing : (xs : Taken) (s : State) (p : Syntax) → Reaches xs s → ((q : Syntax) × (s ≡ m.finished q)) ⊎ (at_end s ≡ Err (Wrong 0)) → at_end s ≡ okay p → Followed xs [] s p
+follow_nothing xs s p r (inr un) e = absurd (apart (sym un ∙ e))
   where
-    apart : Err (Wrong 0) ≡ okay ps → ⊥
+    apart : Err (Wrong 0) ≡ okay p → ⊥
     apart h = absurd cc
-follow_nothing xs s ps r (inl f) e =
-    subst (λ z. Followed xs [] z ps) (sym f.1)
-    (at_the_end xs [] f.0 ps (subst (λ z. Reaches xs z) f.1 r) refl (let h : at_end (m.finished f.0) ≡ okay ps = subst (λ z. at_end z ≡ okay ps) f.1 e in h))
+follow_nothing xs s p r (inl f) e =
+    subst (λ z. Followed xs [] z p) (sym f.1)
+    (at_the_end xs [] f.0 p (subst (λ z. Reaches xs z) f.1 r) refl (let h : at_end (m.finished f.0) ≡ okay p = subst (λ z. at_end z ≡ okay p) f.1 e in h))
 
-follow : (ts : List Lexeme) (xs : Taken) (s : State) (ps : List External) → Reaches xs s → run all ts s ≡ okay ps → Followed xs ts s ps
-follow [] xs s ps r e = follow_nothing xs s ps r (ending s) e
-follow (t ∷ ts) xs s ps r e = follow_on ts xs s t ps r (ending s) e (λ n s2 is h. follow ts (xs ++ (t, n) ∷ []) s2 ps (one_more xs s t n s2 r is) h)
+follow : (ts : List Lexeme) (xs : Taken) (s : State) (p : Syntax) → Reaches xs s → run all ts s ≡ okay p → Followed xs ts s p
+follow [] xs s p r e = follow_nothing xs s p r (ending s) e
+follow (t ∷ ts) xs s p r e = follow_on ts xs s t p r (ending s) e (λ n s2 is h. follow ts (xs ++ (t, n) ∷ []) s2 p (one_more xs s t n s2 r is) h)
 
 abbrev depths : List Leaf → List ℕ
 depths = map (λ l. l.nesting)
@@ -78,9 +77,9 @@ spelt_depths (x ∷ xs) (l ∷ ls) s = let e = spelt_depths xs ls s.3 in λ i. s
 -- of a whole program
 whole_depths : (p : Syntax) (ts : List Lexeme) → (program p).fits ≡ true → Spells ts (leaves_of_program p) → nestings ts (m.program []) ≡ depths (leaves_of_program p)
 whole_depths p ts fits s =
-    let f = follow ts [] (m.program []) p.parts at_first (accepts p ts fits s) in
+    let f = follow ts [] (m.program []) p at_first (accepts p ts fits s) in
     let q = f.reached in
-    let text : leaves_of_program p ≡ q.0.leaves = each_end p.parts [] ∙ q.0.is [] ∙ append-nil q.0.leaves in
+    let text : leaves_of_program p ≡ q.0.leaves = each_end p.parts p.end [] ∙ q.0.is [] ∙ append-nil q.0.leaves in
     f.nest ∙ spelt_depths f.taken q.0.leaves q.0.spells ∙ ap depths (sym text)
 
 -- what stands behind a token doesn't count

@@ -23,7 +23,7 @@ use Rattle.c_parser.proofs.Machine.{Frame, State, operand, have, named, opened, 
 use Rattle.c_parser.proofs.Runs.{lex}
 use Rattle.c_parser.proofs.DeclComplete.{joined_other}
 use Rattle.c_parser.proofs.Fill.{fit_append, text_have, Ok_have}
-use Rattle.c_parser.proofs.Text.{trail, object, a_parameter, tops, text_unders, ok_unders, text_home, ok_home, text_type, text_naming, ok_naming, text_heading, text_use, text_frames, ok_frames}
+use Rattle.c_parser.proofs.Text.{trail, object, a_parameter, tops, text_unders, ok_unders, text_home, ok_home, text_type, text_naming, ok_naming, text_heading, text_use, ok_use, text_frames, ok_frames}
 
 -- ---- words with their nesting
 
@@ -203,7 +203,7 @@ Reached xs (m.declaring at g h) = Pre xs (λ r. text_home h (leaves_at at (retur
 Reached xs (m.declared at g n h) = Pre xs (λ r. text_home h (leaves_at at (returned g) (home_nesting h) (leaf (a_name n.bytes) (Some n.at) (home_nesting h) ∷ r))) × ok_home h
 Reached xs (m.item_named i) = Pre xs (text_naming i) × ok_naming i
 Reached xs (m.item_sized i z) = Pre xs (λ r. text_naming i (leaves_of (sized z) (home_nesting i.home) r)) × (all_fit (sized z) ≡ true) × ok_naming i
-Reached xs (m.item_valued i z) = Pre xs (text_use (m.value_ i z)) × (all_fit (sized z) ≡ true) × ok_naming i
+Reached xs (m.item_valued i z) = Pre xs (text_use (m.value_ i z)) × ok_use (m.value_ i z)
 Reached xs (m.item_ended at t is h) = Pre xs (λ r. text_type at t h (leaves_of (commas piece (map declarator is)) (home_nesting h) r)) × (all_fit (some is ∷ commas piece (map declarator is)) ≡ true) × ok_home h
 Reached xs (m.item_next at t is h) = Pre xs (λ r. text_type at t h (leaves_of (trail object is) (home_nesting h) r)) × (all_fit (trail object is) ≡ true) × ok_home h
 Reached xs (m.parameters_first k) = Pre xs (text_heading k) × ok_home k.home

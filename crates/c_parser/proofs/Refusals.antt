@@ -6,7 +6,6 @@ use Rattle.std.proofs.lemmas.Bool.{leb-true, leb-false}
 use Rattle.vp_io.specs.declared.answers.Reason.{Reason}
 use Rattle.c_tree.specs.declared.token.At.{At}
 use Rattle.c_tree.specs.declared.syntax.Syntax.{Syntax}
-use Rattle.c_tree.specs.declared.syntax.External.{External}
 use Rattle.c_grammar.specs.Words.{Lexeme}
 use Rattle.c_grammar.specs.Phrases.{Leaf}
 use Rattle.c_grammar.specs.Spelling.{Spells, Spelled, Shallow, Begins, FirstBad, FirstDeep, Ended, leaves_of_program}
@@ -182,12 +181,12 @@ no_tree_is_refused ts tree reason s (too_deep a f i) = none_left ts f.before f.r
 
 -- the machine has no bound that could run out
 abbrev InBound : Outcome → Type 0
-InBound (Ok ps) = Unit {0}
+InBound (Ok p) = Unit {0}
 InBound (Err (Wrong n)) = Unit {0}
 InBound (Err (Deep n)) = Unit {0}
 InBound (Err Out) = ⊥
 
-end_in_bound : (s : State) → ((ps : List External) × (s ≡ m.finished ps)) ⊎ (at_end s ≡ Err (Wrong 0)) → InBound (at_end s)
+end_in_bound : (s : State) → ((p : Syntax) × (s ≡ m.finished p)) ⊎ (at_end s ≡ Err (Wrong 0)) → InBound (at_end s)
 end_in_bound s (inl f) = subst (λ z. InBound (at_end z)) (sym f.1) tt
 end_in_bound s (inr un) = subst (λ v. InBound v) (sym un) tt
 
@@ -200,7 +199,7 @@ step_in_bound n (Some x) k each = by_test (shallow x.0)
     by_test false = tt
 
 both_in_bound : (a v : Outcome) → InBound a → InBound v → InBound (settled a v)
-both_in_bound (Ok ps) v h i = tt
+both_in_bound (Ok p) v h i = tt
 both_in_bound (Err e) v h i = i
 
 in_bound : (ts : List Lexeme) (s : State) → InBound (run shallow ts s)
@@ -215,7 +214,7 @@ spelled_or_refused ts en = by_outcome (run shallow ts (m.program [])) (outcome t
     stuck j k (t ∷ rest) e = (reason_of 5 t.at, no_program t.at (stuck_at ts j k t rest e) refl)
 
     by_outcome : (v : Outcome) → Ran ts v → InBound v → ((tree : Syntax) × Spelled ts tree) ⊎ ((reason : Reason) × Breaks ts reason)
-    by_outcome (Ok ps) r i = inl (record { parts = ps }, read_spelled ts ps en r)
+    by_outcome (Ok p) r i = inl (p, read_spelled ts p en r)
     by_outcome (Err (Wrong j)) r i = inr (stuck j r r.back refl)
     by_outcome (Err (Deep j)) r i = inr (reason_of 6 r.token.at, too_deep r.token.at (sunk_at ts j r) refl)
     by_outcome (Err Out) r i = absurd i

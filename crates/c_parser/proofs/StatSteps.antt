@@ -244,13 +244,13 @@ module _ (xs : Taken) (t : Lexeme) where
   more_reached at g (a_sign x) None h e j p = tt
 
   sized_reached : (i : Naming) (z : Size) (s : Sign) → sign_of_word t.word ≡ s → Reached xs (m.item_sized i z) → Stepped xs t (m.on_sized i z s)
-  sized_reached i z sign.Assign w p = (none_at xs t _ (text_use (m.value_ i z)) sign.Assign _ w refl p.0 (λ r. refl), p.1, p.2)
+  sized_reached i z sign.Assign w p = (none_at xs t _ (text_use (m.value_ i z)) sign.Assign _ w refl p.0 (λ r. refl), (p.1, p.2))
   sized_reached i z s w p = item_end_step xs t i z initialiser.Absent s w p.0 p.1 refl p.2
 
   valued_reached : (i : Naming) (z : Size) → Reached xs (m.item_valued i z) → Stepped xs t (m.on_valued t.at t.word i z)
   valued_reached i z p = stepped_if xs t (m.is_sign t.word sign.LeftBrace) _ _
-      (λ h. (pre_more xs _ (text_use (m.list_ i z t.at [])) t (a_sign sign.LeftBrace) (Some t.at) _ (is_word t.word sign.LeftBrace h) refl p.0 (λ r. refl), (p.1, refl, p.2)))
-      (λ h. operand_reached xs t t.word [] (m.value_ i z) refl p.0 (p.1, p.2))
+      (λ h. (pre_more xs _ (text_use (m.list_ i z t.at [])) t (a_sign sign.LeftBrace) (Some t.at) _ (is_word t.word sign.LeftBrace h) refl p.0 (λ r. refl), (p.1.0, refl, p.1.1)))
+      (λ h. operand_reached xs t t.word [] (m.value_ i z) refl p.0 p.1)
 
   item_named_reached : (i : Naming) (s : Sign) → sign_of_word t.word ≡ s → Reached xs (m.item_named i) → Stepped xs t (m.on_named i s)
   item_named_reached i sign.LeftBracket w p =

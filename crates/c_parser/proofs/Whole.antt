@@ -6,7 +6,6 @@ use Rattle.std.proofs.lemmas.List.Elements.{All-cons}
 use Rattle.std.proofs.lemmas.Bool.{leb-true, le-leb, leb-false}
 use Rattle.c_tree.specs.declared.token.At.{At}
 use Rattle.c_tree.specs.declared.syntax.Syntax.{Syntax}
-use Rattle.c_tree.specs.declared.syntax.External.{External}
 use Rattle.c_grammar.specs.declared.sign.Sign.TheVariants as sign
 use Rattle.c_grammar.specs.Words.{Word, a_sign, Lexeme}
 use Rattle.c_grammar.specs.Phrases.{Leaf}
@@ -29,10 +28,7 @@ use Rattle.c_parser.proofs.Runs.{Meets, lex, going}
 use Rattle.c_parser.proofs.StatComplete.{complete_program}
 use Rattle.c_parser.proofs.Reached.{Taken, Spelt, Reached, Stepped}
 use Rattle.c_parser.proofs.StatSteps.{stepped}
-use Rattle.c_parser.proofs.Ends.{Done, done, each_end}
-use Rattle.c_parser.proofs.Text.{tops}
-use Rattle.c_parser.proofs.Fill.{fit_append}
-use Rattle.c_grammar.specs.Phrases.{the_sign}
+use Rattle.c_parser.proofs.Ends.{Done, done, each_end, end_fit}
 
 abbrev pub all : ℕ → Bool
 all n = true
@@ -47,17 +43,17 @@ met_all (t ∷ ts) [] s = absurd s
 met_all (t ∷ ts) (l ∷ ls) s = (s.0, s.1, refl, met_all ts ls s.2)
 
 -- the machine comes to the end of a program's tokens
-pub accepts : (p : Syntax) (ts : List Lexeme) → (program p).fits ≡ true → Spells ts (leaves_of_program p) → run all ts (m.program []) ≡ Ok p.parts
+pub accepts : (p : Syntax) (ts : List Lexeme) → (program p).fits ≡ true → Spells ts (leaves_of_program p) → run all ts (m.program []) ≡ Ok p
 accepts p ts fits s = complete_program all p ts fits (record { meets = met_all ts (leaves_of_program p) s })
 
-abbrev pub okay : List External → Outcome
-okay ps = Ok ps
+abbrev pub okay : Syntax → Outcome
+okay p = Ok p
 
-pub ok_same : (a b : List External) → okay a ≡ okay b → a ≡ b
+pub ok_same : (a b : Syntax) → okay a ≡ okay b → a ≡ b
 ok_same a b e = cc
 
 pub unique : Unique
-unique ts a b s t = let e : a.parts ≡ b.parts = ok_same a.parts b.parts (sym (accepts a ts s.fits s.text) ∙ accepts b ts t.fits t.text) in λ i. record { parts = e i }
+unique ts a b s t = ok_same a b (sym (accepts a ts s.fits s.text) ∙ accepts b ts t.fits t.text)
 
 -- ---- what the machine comes to
 
@@ -70,7 +66,7 @@ tokens_snoc (y ∷ xs) x rest = ap (λ l. y.0 ∷ l) (tokens_snoc xs x rest)
 
 -- nothing but a whole program is behind the end
 abbrev pub Over : State → Type 0
-Over (m.finished ps) = Unit {0}
+Over (m.finished p) = Unit {0}
 Over _ = ⊥
 
 abbrev pub Over_next : Next → Type 0
@@ -103,7 +99,7 @@ use_end (m.test_ at b us) e = refl
 use_end (m.next_ at b t us) e = refl
 use_end (m.size_ i) e = refl
 use_end (m.value_ i z) e = refl
-use_end (m.list_ i z es) e = refl
+use_end (m.list_ i z at es) e = refl
 
 offer_end : (fs : List Frame) (e : Expr) (u : Use) → offer sign.End e fs u ≡ None
 offer_end [] e u = use_end u e
@@ -167,19 +163,20 @@ end_step (m.want us) p = over_none _ (same_none (m.is_block us))
 end_step (m.got x us) p = over_none _ (settle_end us x p)
 end_step (m.for_first at us) p = tt
 end_step (m.declaring at g h) p = over_none _ (ap (λ o. m.on_declaring p at g (a_sign sign.End) o h) (more_end g))
-end_step (m.declared at gives.Void q n h) p = tt
-end_step (m.declared at (gives.Value t) q n h) p = tt
+end_step (m.declared at gives.Void n h) p = tt
+end_step (m.declared at (gives.Value t) n h) p = tt
 end_step (m.item_named i) p = tt
 end_step (m.item_sized i z) p = tt
+end_step (m.item_valued i z) p = tt
 end_step (m.item_ended at t is h) p = tt
 end_step (m.item_next at t is h) p = tt
 end_step (m.parameters_first k) p = tt
-end_step (m.parameter_typed k ps q t) p = over_none _ (ap (λ o. m.on_typed (a_sign sign.End) o k ps q t) (joined_end t))
+end_step (m.parameter_typed k ps q t) p = over_none _ (ap (λ o. m.on_typed p (a_sign sign.End) o k ps q t) (joined_end t))
 end_step (m.parameter_ended k ps) p = tt
 end_step (m.parameter_next k ps) p = tt
 end_step (m.header k qs) p = tt
 end_step (m.program ps) p = tt
-end_step (m.finished ps) p = tt
+end_step (m.finished a) p = tt
 
 ended_step : (s : State) (t : Lexeme) (n : ℕ) (s2 : State) → step s t ≡ Some (n, s2) → t.word ≡ a_sign sign.End → Over s2
 ended_step s t n s2 e w =
@@ -215,12 +212,12 @@ abbrev pub Stops : State → List Lexeme → Type 0
 Stops s [] = at_end s ≡ Err (Wrong 0)
 Stops s (t ∷ rest) = step s t ≡ None
 
-pub record All_read (us : List Lexeme) (ps : List External) : Type 0 where
+pub record All_read (us : List Lexeme) (p : Syntax) : Type 0 where
   pub taken : Taken
   pub back : List Lexeme
   pub tokens : us ≡ tokens_of taken ++ back
   pub low : Low taken
-  pub reached : Reached taken (m.finished ps)
+  pub reached : Reached taken (m.finished p)
 
 pub record Stuck (us : List Lexeme) (j : ℕ) : Type 0 where
   pub taken : Taken
@@ -246,14 +243,14 @@ pub record Sunk (us : List Lexeme) (j : ℕ) : Type 0 where
   pub reached : Reached (taken ++ (token, nesting) ∷ []) state
 
 abbrev pub Ran : List Lexeme → Outcome → Type 0
-Ran us (Ok ps) = All_read us ps
+Ran us (Ok p) = All_read us p
 Ran us (Err (Wrong j)) = Stuck us j
 Ran us (Err (Deep j)) = Sunk us j
 Ran us (Err Out) = Unit {0}
 
 -- where no word is left
 ran_end : (us : List Lexeme) (xs : Taken) (s : State) → us ≡ tokens_of xs ++ [] → Low xs → Reaches xs s → Ran us (at_end s)
-ran_end us xs (m.finished ps) e l r = record { taken = xs; back = []; tokens = e; low = l; reached = r.reached }
+ran_end us xs (m.finished p) e l r = record { taken = xs; back = []; tokens = e; low = l; reached = r.reached }
 ran_end us xs (m.operand fs u) e l r = record { taken = xs; back = []; split = e; left = refl; low = l; state = m.operand fs u; reaches = r; stops = refl; unended = refl }
 ran_end us xs (m.have x fs u) e l r = record { taken = xs; back = []; split = e; left = refl; low = l; state = m.have x fs u; reaches = r; stops = refl; unended = refl }
 ran_end us xs (m.named at n fs u) e l r = record { taken = xs; back = []; split = e; left = refl; low = l; state = m.named at n fs u; reaches = r; stops = refl; unended = refl }
@@ -265,9 +262,10 @@ ran_end us xs (m.want vs) e l r = record { taken = xs; back = []; split = e; lef
 ran_end us xs (m.got x vs) e l r = record { taken = xs; back = []; split = e; left = refl; low = l; state = m.got x vs; reaches = r; stops = refl; unended = refl }
 ran_end us xs (m.for_first at vs) e l r = record { taken = xs; back = []; split = e; left = refl; low = l; state = m.for_first at vs; reaches = r; stops = refl; unended = refl }
 ran_end us xs (m.declaring at g h) e l r = record { taken = xs; back = []; split = e; left = refl; low = l; state = m.declaring at g h; reaches = r; stops = refl; unended = refl }
-ran_end us xs (m.declared at g q n h) e l r = record { taken = xs; back = []; split = e; left = refl; low = l; state = m.declared at g q n h; reaches = r; stops = refl; unended = refl }
+ran_end us xs (m.declared at g n h) e l r = record { taken = xs; back = []; split = e; left = refl; low = l; state = m.declared at g n h; reaches = r; stops = refl; unended = refl }
 ran_end us xs (m.item_named i) e l r = record { taken = xs; back = []; split = e; left = refl; low = l; state = m.item_named i; reaches = r; stops = refl; unended = refl }
 ran_end us xs (m.item_sized i z) e l r = record { taken = xs; back = []; split = e; left = refl; low = l; state = m.item_sized i z; reaches = r; stops = refl; unended = refl }
+ran_end us xs (m.item_valued i z) e l r = record { taken = xs; back = []; split = e; left = refl; low = l; state = m.item_valued i z; reaches = r; stops = refl; unended = refl }
 ran_end us xs (m.item_ended at t is h) e l r = record { taken = xs; back = []; split = e; left = refl; low = l; state = m.item_ended at t is h; reaches = r; stops = refl; unended = refl }
 ran_end us xs (m.item_next at t is h) e l r = record { taken = xs; back = []; split = e; left = refl; low = l; state = m.item_next at t is h; reaches = r; stops = refl; unended = refl }
 ran_end us xs (m.parameters_first k) e l r = record { taken = xs; back = []; split = e; left = refl; low = l; state = m.parameters_first k; reaches = r; stops = refl; unended = refl }
@@ -291,7 +289,7 @@ ran_step ts us xs s t un e l r more = onward (step s t) refl
     onward None is = record { taken = xs; back = t ∷ ts; split = e; left = refl; low = l; state = s; reaches = r; stops = is; unended = un }
     onward (Some x) is = deep x.0 x.1 is (shallow x.0) refl
 
-pub ending : (s : State) → ((ps : List External) × (s ≡ m.finished ps)) ⊎ (at_end s ≡ Err (Wrong 0))
+pub ending : (s : State) → ((p : Syntax) × (s ≡ m.finished p)) ⊎ (at_end s ≡ Err (Wrong 0))
 ending (m.operand fs u) = inr refl
 ending (m.have e fs u) = inr refl
 ending (m.named at f fs u) = inr refl
@@ -303,9 +301,10 @@ ending (m.want us) = inr refl
 ending (m.got x us) = inr refl
 ending (m.for_first at us) = inr refl
 ending (m.declaring at g h) = inr refl
-ending (m.declared at g q f h) = inr refl
+ending (m.declared at g f h) = inr refl
 ending (m.item_named i) = inr refl
 ending (m.item_sized i z) = inr refl
+ending (m.item_valued i z) = inr refl
 ending (m.item_ended at ty is h) = inr refl
 ending (m.item_next at ty is h) = inr refl
 ending (m.parameters_first k) = inr refl
@@ -314,9 +313,9 @@ ending (m.parameter_ended k ps) = inr refl
 ending (m.parameter_next k ps) = inr refl
 ending (m.header k qs) = inr refl
 ending (m.program ps) = inr refl
-ending (m.finished ps) = inl (ps, refl)
+ending (m.finished p) = inl (p, refl)
 
-ran_on : (ts us : List Lexeme) (xs : Taken) (s : State) (t : Lexeme) → us ≡ tokens_of xs ++ t ∷ ts → Low xs → Reaches xs s → ((ps : List External) × (s ≡ m.finished ps)) ⊎ (at_end s ≡ Err (Wrong 0)) → ((n : ℕ) (s2 : State) → step s t ≡ Some (n, s2) → n ≤ 200 → Ran us (run shallow ts s2)) → Ran us (run shallow (t ∷ ts) s)
+ran_on : (ts us : List Lexeme) (xs : Taken) (s : State) (t : Lexeme) → us ≡ tokens_of xs ++ t ∷ ts → Low xs → Reaches xs s → ((p : Syntax) × (s ≡ m.finished p)) ⊎ (at_end s ≡ Err (Wrong 0)) → ((n : ℕ) (s2 : State) → step s t ≡ Some (n, s2) → n ≤ 200 → Ran us (run shallow ts s2)) → Ran us (run shallow (t ∷ ts) s)
 ran_on ts us xs s t e l r (inl f) more = subst (λ z. Ran us (run shallow (t ∷ ts) z)) (sym f.1) (let q : Reaches xs (m.finished f.0) = subst (λ z. Reaches xs z) f.1 r in record { taken = xs; back = t ∷ ts; tokens = e; low = l; reached = q.reached })
 ran_on ts us xs s t e l r (inr un) more = subst (λ a. Ran us (m.settled a (moved shallow (suc (length ts)) (step s t) (run shallow ts)))) (sym un) (ran_step ts us xs s t un e l r more)
 
@@ -349,21 +348,21 @@ in_body P (x ∷ a) [] t b e bs h k = absurd (no_more a cc)
     no_more (y ∷ a) h = absurd cc
 in_body P (x ∷ a) (y ∷ body) t b e bs h k = let f : a ++ t ∷ b ∷ bs ≡ body ++ e ∷ [] = cc in in_body P a body t b e bs f (λ i d lt. k (suc i) d (omega (arith, lt)))
 
-nothing_behind : (us : List Lexeme) (ps : List External) (r : All_read us ps) → Ended us → (back : List Lexeme) → r.back ≡ back → us ≡ tokens_of r.taken
-nothing_behind us ps r en [] e = r.tokens ∙ ap (λ l. tokens_of r.taken ++ l) e ∙ append-nil (tokens_of r.taken)
-nothing_behind us ps r en (b ∷ bs) e =
+nothing_behind : (us : List Lexeme) (p : Syntax) (r : All_read us p) → Ended us → (back : List Lexeme) → r.back ≡ back → us ≡ tokens_of r.taken
+nothing_behind us p r en [] e = r.tokens ∙ ap (λ l. tokens_of r.taken ++ l) e ∙ append-nil (tokens_of r.taken)
+nothing_behind us p r en (b ∷ bs) e =
     let f = r.reached.2 in
     let whole : tokens_of f.0 ++ f.1 ∷ b ∷ bs ≡ en.body ++ lex (a_sign sign.End) en.at ∷ [] = sym (tokens_snoc f.0 (f.1, 0) (b ∷ bs)) ∙ ap (λ l. tokens_of l ++ b ∷ bs) (sym f.2) ∙ ap (λ l. tokens_of r.taken ++ l) (sym e) ∙ sym r.tokens ∙ en.is in
     absurd (in_body (λ t. t.word ≡ a_sign sign.End → ⊥) (tokens_of f.0) en.body f.1 b (lex (a_sign sign.End) en.at) bs whole en.none f.3)
 
-pub read_spelled : (us : List Lexeme) (ps : List External) → Ended us → All_read us ps → Spelled us (record { parts = ps })
-read_spelled us ps en r =
-    let p = r.reached in
-    let text : leaves_of_program (record { parts = ps }) ≡ p.0.leaves = each_end ps [] ∙ p.0.is [] ∙ append-nil p.0.leaves in
+pub read_spelled : (us : List Lexeme) (p : Syntax) → Ended us → All_read us p → Spelled us p
+read_spelled us p en r =
+    let q = r.reached in
+    let text : leaves_of_program p ≡ q.0.leaves = each_end p.parts p.end [] ∙ q.0.is [] ∙ append-nil q.0.leaves in
     record {
-      text = subst (λ l. Spells us l) (sym text) (subst (λ l. Spells l p.0.leaves) (sym (nothing_behind us ps r en r.back refl)) (spells_of r.taken p.0.leaves p.0.spells));
-      fits = fit_append (tops ps) (the_sign sign.End ∷ []) p.1 refl;
-      shallow = subst (λ l. Shallow l) (sym text) (shallow_of r.taken p.0.leaves r.low p.0.spells);
+      text = subst (λ l. Spells us l) (sym text) (subst (λ l. Spells l q.0.leaves) (sym (nothing_behind us p r en r.back refl)) (spells_of r.taken q.0.leaves q.0.spells));
+      fits = end_fit p.parts p.end q.1;
+      shallow = subst (λ l. Shallow l) (sym text) (shallow_of r.taken q.0.leaves r.low q.0.spells);
     }
 
 begins_of : (xs : Taken) (s : State) → Reached xs s → Done xs
@@ -400,12 +399,12 @@ refused : (xs : Taken) (s : State) (t : Lexeme) → Reaches xs s → at_end s �
 refused xs s t r un e leaves b =
     let full : List Lexeme = (tokens_of xs ++ t ∷ []) ++ made b.rest in
     let sp : Spells full (leaves_of_program b.tree) = subst (λ l. Spells full l) (sym b.split) (spells_append (tokens_of xs ++ t ∷ []) (made b.rest) leaves b.rest b.spelled (made_spells b.rest)) in
-    let good : run all full (m.program []) ≡ okay b.tree.parts = accepts b.tree full b.fits sp in
+    let good : run all full (m.program []) ≡ okay b.tree = accepts b.tree full b.fits sp in
     let bad : run all full (m.program []) ≡ Err (Wrong (suc (length (made b.rest)))) = ap (λ l. run all l (m.program [])) (append_assoc (tokens_of xs) (t ∷ []) (made b.rest)) ∙ r.goes (t ∷ made b.rest) ∙ (λ i. m.settled (un i) (moved all (suc (length (made b.rest))) (e i) (run all (made b.rest)))) in
-    apart b.tree.parts (suc (length (made b.rest))) (sym good ∙ bad)
+    apart b.tree (suc (length (made b.rest))) (sym good ∙ bad)
   where
-    apart : (ps : List External) (n : ℕ) → okay ps ≡ Err (Wrong n) → ⊥
-    apart ps n e = absurd cc
+    apart : (p : Syntax) (n : ℕ) → okay p ≡ Err (Wrong n) → ⊥
+    apart p n e = absurd cc
 
 pub stuck_at : (us : List Lexeme) (j : ℕ) (k : Stuck us j) (t : Lexeme) (rest : List Lexeme) → k.back ≡ t ∷ rest → FirstBad us t.at
 stuck_at us j k t rest e =
@@ -433,7 +432,7 @@ last_is_end (x ∷ y ∷ xs) [] t e = absurd cc
 last_is_end (x ∷ y ∷ xs) (b ∷ body) t e = let f : tokens_of (y ∷ xs) ≡ body ++ t ∷ [] = cc in last_is_end (y ∷ xs) body t f
 
 over_end : (s : State) → Over s → at_end s ≡ Err (Wrong 0) → ⊥
-over_end (m.finished ps) o e = absurd cc
+over_end (m.finished p) o e = absurd cc
 over_end (m.program ps) o e = absurd o
 over_end (m.operand fs u) o e = absurd o
 over_end (m.have x fs u) o e = absurd o
@@ -483,5 +482,5 @@ met_shallow (t ∷ ts) [] s h = absurd s
 met_shallow (t ∷ ts) (l ∷ ls) s h = (s.0, s.1, le-leb _ _ (h 0 l (omega arith)), met_shallow ts ls s.2 (λ k d lt. h (suc k) d (omega (arith, lt))))
 
 -- what is spelled within the nesting is read so
-pub spelled_read : (p : Syntax) (us : List Lexeme) → Spelled us p → run shallow us (m.program []) ≡ Ok p.parts
+pub spelled_read : (p : Syntax) (us : List Lexeme) → Spelled us p → run shallow us (m.program []) ≡ Ok p
 spelled_read p us s = complete_program shallow p us s.fits (record { meets = met_shallow us (leaves_of_program p) s.text s.shallow })

@@ -14,6 +14,7 @@ use Rattle.c_parser.proofs.Asked.{type_of, joined}
 use Rattle.c_tree.specs.declared.syntax.Size.{Size}
 use Rattle.c_tree.specs.declared.syntax.Size.TheVariants as size
 use Rattle.c_tree.specs.declared.syntax.Initialiser.TheVariants as initialiser
+use Rattle.c_tree.specs.declared.syntax.Identifier.{Identifier}
 use Rattle.c_tree.specs.declared.syntax.Item.{Item}
 use Rattle.c_tree.specs.declared.syntax.Return.{Return}
 use Rattle.c_tree.specs.declared.syntax.Return.TheVariants as gives
@@ -26,7 +27,7 @@ use Rattle.c_reading.specs.declared.declarations.Opening.{Opening}
 use Rattle.c_reading.specs.declared.declarations.Opening.TheVariants as opening_
 use Rattle.c_reading.specs.Parsers.{name, name_by, name_if_any, name_if_any_by}
 use Rattle.c_parser.proofs.Machine as m
-use Rattle.c_parser.proofs.Machine.{State, operand, have, Use, step, run, Outcome, Next, goes, moved, at_end, hole, first, spot, op_of, takes, push, close_use, use_hole, Home, Naming, Heading, home_nesting, conclude, item_named, item_sized, item_ended, item_next, item_end, item_of, value_after, parameters_first, parameter_typed, parameter_ended, parameter_next, header, declaring, either, is_sign}
+use Rattle.c_parser.proofs.Machine.{State, operand, have, Use, step, run, Outcome, Next, goes, moved, at_end, hole, first, spot, op_of, takes, push, close_use, use_hole, Home, Naming, Heading, home_nesting, conclude, item_named, item_sized, item_valued, item_ended, item_next, item_end, item_of, value_after, parameters_first, parameter_typed, parameter_ended, parameter_next, header, declaring, either, is_sign, identifier}
 use Rattle.c_parser.proofs.Reached.{word_is}
 use Rattle.c_parser.proofs.Sim.{Stop, stop_takes, Sim, sim_then, sim_as, sim_weaker, Took, sim_eat, sim_wrong, same_run, sign_is, word_at_is, place_is, sim_expect, sim_more, Words, Typed, types_sim, Got, inner, read_reads}
 
@@ -54,17 +55,17 @@ module _ (T : ℕ → Bool) where
   sim_choice x n ts a b p z k Q self other ends h g false is = sim_as T (z n ts) (run T ts (either x n a b)) (run T ts b) k Q
       (same_run T (either x n a b) b ts (sym ends) (λ t us q. ap (λ c. cond c (goes n a) (step b t)) (is_no_sign t.word x (ap (λ y. same y x) (sign_is T ts t us (sign_at ts) q refl) ∙ is)))) g
 
-  pub sim_name : (s : State) (s2 : At → List ℕ → State) (n : ℕ) (ts : List Lexeme) → at_end s ≡ Err (Wrong 0) → ((t : Lexeme) (f : List ℕ) (us : List Lexeme) → ts ≡ t ∷ us → t.word ≡ a_name f → step s t ≡ Some (n, s2 t.at f)) → ((t : Lexeme) (us : List Lexeme) → ts ≡ t ∷ us → ((f : List ℕ) → t.word ≡ a_name f → ⊥) → step s t ≡ None)
-      → Sim T (name T n ts) (run T ts s) (λ f. s2 (place_at ts) f) (λ f k us. Took T n k)
+  pub sim_name : (s : State) (s2 : Identifier → State) (n : ℕ) (ts : List Lexeme) → at_end s ≡ Err (Wrong 0) → ((t : Lexeme) (f : List ℕ) (us : List Lexeme) → ts ≡ t ∷ us → t.word ≡ a_name f → step s t ≡ Some (n, s2 (identifier t.at f))) → ((t : Lexeme) (us : List Lexeme) → ts ≡ t ∷ us → ((f : List ℕ) → t.word ≡ a_name f → ⊥) → step s t ≡ None)
+      → Sim T (name T n ts) (run T ts s) s2 (λ f k us. Took T n k)
   unfolding name
   sim_name s s2 n ts e yes_ no_ = by_word (word_at ts) refl
     where
-      wrong_word : ((f : List ℕ) → word_at ts ≡ a_name f → ⊥) → Sim T (wrong {A = List ℕ} n ts) (run T ts s) (λ f. s2 (place_at ts) f) (λ f k us. Took T n k)
-      wrong_word h = sim_wrong T {A = List ℕ} s n ts (λ f. s2 (place_at ts) f) (λ f k us. Took T n k) e (λ t us q. no_ t us q (λ f w. h f (sym (sym w ∙ word_at_is T ts t us (word_at ts) q refl))))
+      wrong_word : ((f : List ℕ) → word_at ts ≡ a_name f → ⊥) → Sim T (wrong {A = Identifier} n ts) (run T ts s) s2 (λ f k us. Took T n k)
+      wrong_word h = sim_wrong T {A = Identifier} s n ts s2 (λ f k us. Took T n k) e (λ t us q. no_ t us q (λ f w. h f (sym (sym w ∙ word_at_is T ts t us (word_at ts) q refl))))
 
-      by_word : (w : Word) → word_at ts ≡ w → Sim T (name_by T w n ts) (run T ts s) (λ f. s2 (place_at ts) f) (λ f k us. Took T n k)
-      by_word (a_name f) is = sim_then T (eat T n ts) _ (run T ts s) (λ x. s2 (place_at ts) f) (λ x k us. Took T n k) (λ f. s2 (place_at ts) f) (λ f k us. Took T n k)
-          (sim_eat T s (s2 (place_at ts) f) n ts e (λ t us q. yes_ t f us q (word_at_is T ts t us (a_name f) q is) ∙ ap (λ y. goes n (s2 y f)) (place_is T ts t us q)))
+      by_word : (w : Word) → word_at ts ≡ w → Sim T (name_by T (place_at ts) w n ts) (run T ts s) s2 (λ f k us. Took T n k)
+      by_word (a_name f) is = sim_then T (eat T n ts) _ (run T ts s) (λ x. s2 (identifier (place_at ts) f)) (λ x k us. Took T n k) s2 (λ f k us. Took T n k)
+          (sim_eat T s (s2 (identifier (place_at ts) f)) n ts e (λ t us q. yes_ t f us q (word_at_is T ts t us (a_name f) q is) ∙ ap (λ y. goes n (s2 (identifier y f))) (place_is T ts t us q)))
           (λ x k us g. (refl, g))
       by_word (a_number v d2 k) is = wrong_word (λ f w. absurd (apart (sym is ∙ w)))
         where
@@ -122,58 +123,65 @@ module _ (T : ℕ → Bool) where
 
   -- ---- initialisers
 
-  abbrev ended_by : Naming → Size → List Expr → Option Bool → State
-  ended_by i z es None = operand [] (m.list_ i z es)
-  ended_by i z es (Some c) = item_end i z (initialiser.List es c)
+  abbrev ended_by : Naming → Size → At → List Expr → Option Bool → State
+  ended_by i z at es None = operand [] (m.list_ i z at es)
+  ended_by i z at es (Some c) = item_end i z (initialiser.List at es c)
 
-  value_end_sim : (i : Naming) (z : Size) (es : List Expr) (x : Expr) (n : ℕ) (ts : List Lexeme) → n ≡ home_nesting i.home → Stop 1 (op_of (sign_at ts)) x → Sim T (d.value_end T n ts) (run T ts (have x [] (m.list_ i z es))) (ended_by i z (es ++ x ∷ [])) (λ c k us. Took T n k)
+  value_end_sim : (i : Naming) (z : Size) (at : At) (es : List Expr) (x : Expr) (n : ℕ) (ts : List Lexeme) → n ≡ home_nesting i.home → Stop 1 (op_of (sign_at ts)) x → Sim T (d.value_end T n ts) (run T ts (have x [] (m.list_ i z at es))) (ended_by i z at (es ++ x ∷ [])) (λ c k us. Took T n k)
   unfolding d.value_end
-  value_end_sim i z es x n ts nn st = sim_then T (more T sign.RightBrace n ts) _ (run T ts (have x [] (m.list_ i z es))) (λ b. cond b (value_after i z (es ++ x ∷ [])) (item_end i z (initialiser.List (es ++ x ∷ []) false))) (λ b k us. Took T n k) (ended_by i z (es ++ x ∷ [])) (λ c k us. Took T n k)
-      (sim_more T (have x [] (m.list_ i z es)) (value_after i z (es ++ x ∷ [])) (item_end i z (initialiser.List (es ++ x ∷ []) false)) sign.RightBrace n ts refl
-      (λ t us q w. use_step x (m.list_ i z es) ts st t us q ∙ ap (λ y. close_use (m.list_ i z es) x y) w ∙ ap (λ k. goes k (value_after i z (es ++ x ∷ []))) (sym nn))
-      (λ t us q w. use_step x (m.list_ i z es) ts st t us q ∙ ap (λ y. close_use (m.list_ i z es) x y) w ∙ ap (λ k. goes k (item_end i z (initialiser.List (es ++ x ∷ []) false))) (sym nn))
-      (λ t us q c e. use_step x (m.list_ i z es) ts st t us q ∙ neither (sign_of_word t.word) c e))
+  value_end_sim i z at es x n ts nn st = sim_then T (more T sign.RightBrace n ts) _ (run T ts (have x [] (m.list_ i z at es))) (λ b. cond b (value_after i z at (es ++ x ∷ [])) (item_end i z (initialiser.List at (es ++ x ∷ []) false))) (λ b k us. Took T n k) (ended_by i z at (es ++ x ∷ [])) (λ c k us. Took T n k)
+      (sim_more T (have x [] (m.list_ i z at es)) (value_after i z at (es ++ x ∷ [])) (item_end i z (initialiser.List at (es ++ x ∷ []) false)) sign.RightBrace n ts refl
+      (λ t us q w. use_step x (m.list_ i z at es) ts st t us q ∙ ap (λ y. close_use (m.list_ i z at es) x y) w ∙ ap (λ k. goes k (value_after i z at (es ++ x ∷ []))) (sym nn))
+      (λ t us q w. use_step x (m.list_ i z at es) ts st t us q ∙ ap (λ y. close_use (m.list_ i z at es) x y) w ∙ ap (λ k. goes k (item_end i z (initialiser.List at (es ++ x ∷ []) false))) (sym nn))
+      (λ t us q c e. use_step x (m.list_ i z at es) ts st t us q ∙ neither (sign_of_word t.word) c e))
       (λ b k us g. onward b k us g)
     where
-      neither : (s : Sign) → same s sign.Comma ≡ false → same s sign.RightBrace ≡ false → close_use (m.list_ i z es) x s ≡ None
+      neither : (s : Sign) → same s sign.Comma ≡ false → same s sign.RightBrace ≡ false → close_use (m.list_ i z at es) x s ≡ None
       neither sign.Comma c e = absurd cc
       neither sign.RightBrace c e = absurd cc
       neither s c e = refl
 
-      last : (k : ℕ) (us : List Lexeme) → Took T n k → (c : Bool) → same (sign_at us) sign.RightBrace ≡ c → Sim T ((cond c (eat T >> pure (Some true)) (pure None)) k us) (run T us (value_after i z (es ++ x ∷ []))) (ended_by i z (es ++ x ∷ [])) (λ c j vs. Took T n j)
-      last k us g c is = sim_as T _ _ (run T us (either sign.RightBrace k (item_end i z (initialiser.List (es ++ x ∷ []) true)) (operand [] (m.list_ i z (es ++ x ∷ []))))) (ended_by i z (es ++ x ∷ [])) (λ c j vs. Took T n j)
-          (ap (λ j. run T us (either sign.RightBrace j (item_end i z (initialiser.List (es ++ x ∷ []) true)) (operand [] (m.list_ i z (es ++ x ∷ []))))) (sym (g.nesting ∙ nn)))
-          (sim_choice sign.RightBrace k us (item_end i z (initialiser.List (es ++ x ∷ []) true)) (operand [] (m.list_ i z (es ++ x ∷ []))) (pure (Some true)) (pure None) (ended_by i z (es ++ x ∷ [])) (λ c j vs. Took T n j) refl refl refl
+      last : (k : ℕ) (us : List Lexeme) → Took T n k → (c : Bool) → same (sign_at us) sign.RightBrace ≡ c → Sim T ((cond c (eat T >> pure (Some true)) (pure None)) k us) (run T us (value_after i z at (es ++ x ∷ []))) (ended_by i z at (es ++ x ∷ [])) (λ c j vs. Took T n j)
+      last k us g c is = sim_as T _ _ (run T us (either sign.RightBrace k (item_end i z (initialiser.List at (es ++ x ∷ []) true)) (operand [] (m.list_ i z at (es ++ x ∷ []))))) (ended_by i z at (es ++ x ∷ [])) (λ c j vs. Took T n j)
+          (ap (λ j. run T us (either sign.RightBrace j (item_end i z (initialiser.List at (es ++ x ∷ []) true)) (operand [] (m.list_ i z at (es ++ x ∷ []))))) (sym (g.nesting ∙ nn)))
+          (sim_choice sign.RightBrace k us (item_end i z (initialiser.List at (es ++ x ∷ []) true)) (operand [] (m.list_ i z at (es ++ x ∷ []))) (pure (Some true)) (pure None) (ended_by i z at (es ++ x ∷ [])) (λ c j vs. Took T n j) refl refl refl
           (λ y vs h. (refl, record { nesting = h.nesting ∙ g.nesting })) (refl, g) c is)
 
-      onward : (b : Bool) (k : ℕ) (us : List Lexeme) → Took T n k → Sim T ((cond b (cond (same (sign_at us) sign.RightBrace) (eat T >> pure (Some true)) (pure None)) (pure (Some false))) k us) (run T us (cond b (value_after i z (es ++ x ∷ [])) (item_end i z (initialiser.List (es ++ x ∷ []) false)))) (ended_by i z (es ++ x ∷ [])) (λ c j vs. Took T n j)
+      onward : (b : Bool) (k : ℕ) (us : List Lexeme) → Took T n k → Sim T ((cond b (cond (same (sign_at us) sign.RightBrace) (eat T >> pure (Some true)) (pure None)) (pure (Some false))) k us) (run T us (cond b (value_after i z at (es ++ x ∷ [])) (item_end i z (initialiser.List at (es ++ x ∷ []) false)))) (ended_by i z at (es ++ x ∷ [])) (λ c j vs. Took T n j)
       onward true k us g = last k us g (same (sign_at us) sign.RightBrace) refl
       onward false k us g = (refl, g)
 
-  values_sim : (b : ℕ) (i : Naming) (z : Size) (es : List Expr) (n : ℕ) (ts : List Lexeme) → n ≡ home_nesting i.home → Sim T (d.values T b es n ts) (run T ts (operand [] (m.list_ i z es))) (λ v. item_end i z v) (λ v k us. Took T n k)
+  values_sim : (b : ℕ) (i : Naming) (z : Size) (at : At) (es : List Expr) (n : ℕ) (ts : List Lexeme) → n ≡ home_nesting i.home → Sim T (d.values T b at es n ts) (run T ts (operand [] (m.list_ i z at es))) (λ v. item_end i z v) (λ v k us. Took T n k)
   unfolding d.values d.next_value
-  values_sim zero i z es n ts nn = tt
-  values_sim (suc b) i z es n ts nn = sim_then T (and_then (r.read T b r.assign n ts) (λ x. d.value_end T >>= (λ c. pure (x, c)))) _ (run T ts (operand [] (m.list_ i z es))) (λ y. ended_by i z (es ++ y.0 ∷ []) y.1) (λ y k us. Took T n k) (λ v. item_end i z v) (λ v k us. Took T n k)
-      (sim_then T (r.read T b r.assign n ts) _ (run T ts (operand [] (m.list_ i z es))) (λ x. have x [] (m.list_ i z es)) (Got T 1 (place_at ts) (λ x. home_nesting i.home)) (λ y. ended_by i z (es ++ y.0 ∷ []) y.1) (λ y k us. Took T n k)
-      ((read_reads T b).assign [] (m.list_ i z es) n ts (omega arith) nn)
-      (λ x k us g. sim_then T (d.value_end T k us) _ (run T us (have x [] (m.list_ i z es))) (ended_by i z (es ++ x ∷ [])) (λ c j vs. Took T k j) (λ y. ended_by i z (es ++ y.0 ∷ []) y.1) (λ y k us. Took T n k)
-      (value_end_sim i z es x k us g.nesting g.stop)
+  values_sim zero i z at es n ts nn = tt
+  values_sim (suc b) i z at es n ts nn = sim_then T (and_then (r.read T b r.assign n ts) (λ x. d.value_end T >>= (λ c. pure (x, c)))) _ (run T ts (operand [] (m.list_ i z at es))) (λ y. ended_by i z at (es ++ y.0 ∷ []) y.1) (λ y k us. Took T n k) (λ v. item_end i z v) (λ v k us. Took T n k)
+      (sim_then T (r.read T b r.assign n ts) _ (run T ts (operand [] (m.list_ i z at es))) (λ x. have x [] (m.list_ i z at es)) (Got T 1 (place_at ts) (λ x. home_nesting i.home)) (λ y. ended_by i z at (es ++ y.0 ∷ []) y.1) (λ y k us. Took T n k)
+      ((read_reads T b).assign [] (m.list_ i z at es) n ts (omega arith) nn)
+      (λ x k us g. sim_then T (d.value_end T k us) _ (run T us (have x [] (m.list_ i z at es))) (ended_by i z at (es ++ x ∷ [])) (λ c j vs. Took T k j) (λ y. ended_by i z at (es ++ y.0 ∷ []) y.1) (λ y k us. Took T n k)
+      (value_end_sim i z at es x k us g.nesting g.stop)
       (λ c j vs h. (refl, record { nesting = h.nesting ∙ g.nesting ∙ sym nn }))))
-      (λ y k us g. onward y.0 k us (values_sim b i z (es ++ y.0 ∷ []) k us (g.nesting ∙ nn)) y.1 g)
+      (λ y k us g. onward y.0 k us (values_sim b i z at (es ++ y.0 ∷ []) k us (g.nesting ∙ nn)) y.1 g)
     where
-      onward : (y : Expr) (k : ℕ) (us : List Lexeme) → Sim T (d.values T b (es ++ y ∷ []) k us) (run T us (operand [] (m.list_ i z (es ++ y ∷ [])))) (λ v. item_end i z v) (λ v j vs. Took T k j) → (c : Option Bool) → Took T n k → Sim T (d.listed T (es ++ y ∷ []) (d.values T b (es ++ y ∷ [])) c k us) (run T us (ended_by i z (es ++ y ∷ []) c)) (λ v. item_end i z v) (λ v j vs. Took T n j)
+      onward : (y : Expr) (k : ℕ) (us : List Lexeme) → Sim T (d.values T b at (es ++ y ∷ []) k us) (run T us (operand [] (m.list_ i z at (es ++ y ∷ [])))) (λ v. item_end i z v) (λ v j vs. Took T k j) → (c : Option Bool) → Took T n k → Sim T (d.listed T at (es ++ y ∷ []) (d.values T b at (es ++ y ∷ [])) c k us) (run T us (ended_by i z at (es ++ y ∷ []) c)) (λ v. item_end i z v) (λ v j vs. Took T n j)
       onward y k us h None g = sim_weaker T _ _ (λ v. item_end i z v) _ (λ v j vs. Took T n j) (λ v j vs l. record { nesting = l.nesting ∙ g.nesting }) h
       onward y k us h (Some c) g = (refl, g)
+
+  -- what stands behind an equals sign begins with a brace, or not
+  braced : (i : Naming) (z : Size) (t : Lexeme) → is_sign t.word sign.LeftBrace ≡ true → step (item_valued i z) t ≡ goes (home_nesting i.home) (operand [] (m.list_ i z t.at []))
+  braced i z t h = ap (λ c. cond c (goes (home_nesting i.home) (operand [] (m.list_ i z t.at []))) (step (operand [] (m.value_ i z)) t)) h
+
+  unbraced : (i : Naming) (z : Size) (t : Lexeme) → is_sign t.word sign.LeftBrace ≡ false → step (item_valued i z) t ≡ step (operand [] (m.value_ i z)) t
+  unbraced i z t h = ap (λ c. cond c (goes (home_nesting i.home) (operand [] (m.list_ i z t.at []))) (step (operand [] (m.value_ i z)) t)) h
 
   same_value : (i : Naming) (z : Size) (e : Expr) (us : List Lexeme) → Stop 1 (op_of (sign_at us)) e → run T us (have e [] (m.value_ i z)) ≡ run T us (item_end i z (initialiser.Value e))
   same_value i z e us st = same_run T (have e [] (m.value_ i z)) (item_end i z (initialiser.Value e)) us refl (λ t vs q. use_step e (m.value_ i z) us st t vs q)
 
-  value_sim : (b : ℕ) (i : Naming) (z : Size) (n : ℕ) (ts : List Lexeme) → n ≡ home_nesting i.home → (s : Sign) → sign_at ts ≡ s → Sim T (d.value_by T b s n ts) (run T ts (either sign.LeftBrace n (operand [] (m.list_ i z [])) (operand [] (m.value_ i z)))) (λ v. item_end i z v) (λ v k us. Took T n k)
-  value_sim b i z n ts nn sign.LeftBrace is = sim_then T (eat T n ts) _ (run T ts (either sign.LeftBrace n (operand [] (m.list_ i z [])) (operand [] (m.value_ i z)))) (λ x. operand [] (m.list_ i z [])) (λ x k us. Took T n k) (λ v. item_end i z v) (λ v k us. Took T n k)
-      (sim_eat T (either sign.LeftBrace n (operand [] (m.list_ i z [])) (operand [] (m.value_ i z))) (operand [] (m.list_ i z [])) n ts refl (λ t us q. ap (λ c. cond c (goes n (operand [] (m.list_ i z []))) (step (operand [] (m.value_ i z)) t)) (is_a_sign t.word sign.LeftBrace (sign_is T ts t us sign.LeftBrace q is) refl refl)))
-      (λ x k us g. sim_weaker T _ _ (λ v. item_end i z v) _ (λ v j vs. Took T n j) (λ v j vs l. record { nesting = l.nesting ∙ g.nesting }) (values_sim b i z [] k us (g.nesting ∙ nn)))
-  value_sim b i z n ts nn s is = sim_as T _ (run T ts (either sign.LeftBrace n (operand [] (m.list_ i z [])) (operand [] (m.value_ i z)))) (run T ts (operand [] (m.value_ i z))) (λ v. item_end i z v) (λ v k us. Took T n k)
-      (same_run T (either sign.LeftBrace n (operand [] (m.list_ i z [])) (operand [] (m.value_ i z))) (operand [] (m.value_ i z)) ts refl (λ t us q. ap (λ c. cond c (goes n (operand [] (m.list_ i z []))) (step (operand [] (m.value_ i z)) t)) (is_no_sign t.word sign.LeftBrace (ap (λ y. same y sign.LeftBrace) (sign_is T ts t us s q is)))))
+  value_sim : (b : ℕ) (i : Naming) (z : Size) (n : ℕ) (ts : List Lexeme) → n ≡ home_nesting i.home → (s : Sign) → sign_at ts ≡ s → Sim T (d.value_by T b (place_at ts) s n ts) (run T ts (item_valued i z)) (λ v. item_end i z v) (λ v k us. Took T n k)
+  value_sim b i z n ts nn sign.LeftBrace is = sim_then T (eat T n ts) _ (run T ts (item_valued i z)) (λ x. operand [] (m.list_ i z (place_at ts) [])) (λ x k us. Took T n k) (λ v. item_end i z v) (λ v k us. Took T n k)
+      (sim_eat T (item_valued i z) (operand [] (m.list_ i z (place_at ts) [])) n ts refl (λ t us q. braced i z t (is_a_sign t.word sign.LeftBrace (sign_is T ts t us sign.LeftBrace q is) refl refl) ∙ ap (λ p. goes (home_nesting i.home) (operand [] (m.list_ i z p []))) (place_is T ts t us q) ∙ ap (λ k. goes k (operand [] (m.list_ i z (place_at ts) []))) (sym nn)))
+      (λ x k us g. sim_weaker T _ _ (λ v. item_end i z v) _ (λ v j vs. Took T n j) (λ v j vs l. record { nesting = l.nesting ∙ g.nesting }) (values_sim b i z (place_at ts) [] k us (g.nesting ∙ nn)))
+  value_sim b i z n ts nn s is = sim_as T _ (run T ts (item_valued i z)) (run T ts (operand [] (m.value_ i z))) (λ v. item_end i z v) (λ v k us. Took T n k)
+      (same_run T (item_valued i z) (operand [] (m.value_ i z)) ts refl (λ t us q. unbraced i z t (is_no_sign t.word sign.LeftBrace (ap (λ y. same y sign.LeftBrace) (sign_is T ts t us s q is)))))
       (sim_then T (r.read T b r.assign n ts) _ (run T ts (operand [] (m.value_ i z))) (λ e. have e [] (m.value_ i z)) (Got T 1 (place_at ts) (λ x. home_nesting i.home)) (λ v. item_end i z v) (λ v k us. Took T n k)
       ((read_reads T b).assign [] (m.value_ i z) n ts (omega arith) nn)
       (λ e k us g. (same_value i z e us g.stop, record { nesting = g.nesting ∙ sym nn })))
@@ -186,33 +194,32 @@ module _ (T : ℕ → Bool) where
       plain sign.Assign h = absurd cc
       plain s h = refl
 
-      by_sign : (c : Bool) → same (sign_at ts) sign.Assign ≡ c → Sim T ((cond c (eat T >> (peek >>= d.value_by T b)) (pure initialiser.Absent)) n ts) (run T ts (item_sized i z)) (λ v. item_end i z v) (λ v k us. Took T n k)
-      by_sign true is = sim_then T (eat T n ts) _ (run T ts (item_sized i z)) (λ x. either sign.LeftBrace n (operand [] (m.list_ i z [])) (operand [] (m.value_ i z))) (λ x k us. Took T n k) (λ v. item_end i z v) (λ v k us. Took T n k)
-          (sim_eat T (item_sized i z) (either sign.LeftBrace n (operand [] (m.list_ i z [])) (operand [] (m.value_ i z))) n ts refl (λ t us q. ap (λ x. m.on_sized i z x) (sign_is T ts t us sign.Assign q (same_true the_type (search rules) (sign_at ts) sign.Assign is)) ∙ ap (λ k. goes k (either sign.LeftBrace k (operand [] (m.list_ i z [])) (operand [] (m.value_ i z)))) (sym nn)))
-          (λ x k us g. sim_weaker T _ _ (λ v. item_end i z v) _ (λ v j vs. Took T n j) (λ v j vs l. record { nesting = l.nesting ∙ g.nesting })
-          (sim_as T _ _ (run T us (either sign.LeftBrace k (operand [] (m.list_ i z [])) (operand [] (m.value_ i z)))) (λ v. item_end i z v) (λ v j vs. Took T k j) (ap (λ j. run T us (either sign.LeftBrace j (operand [] (m.list_ i z [])) (operand [] (m.value_ i z)))) (sym g.nesting)) (value_sim b i z k us (g.nesting ∙ nn) (sign_at us) refl)))
+      by_sign : (c : Bool) → same (sign_at ts) sign.Assign ≡ c → Sim T ((cond c (eat T >> d.value T b) (pure initialiser.Absent)) n ts) (run T ts (item_sized i z)) (λ v. item_end i z v) (λ v k us. Took T n k)
+      by_sign true is = sim_then T (eat T n ts) _ (run T ts (item_sized i z)) (λ x. item_valued i z) (λ x k us. Took T n k) (λ v. item_end i z v) (λ v k us. Took T n k)
+          (sim_eat T (item_sized i z) (item_valued i z) n ts refl (λ t us q. ap (λ x. m.on_sized i z x) (sign_is T ts t us sign.Assign q (same_true the_type (search rules) (sign_at ts) sign.Assign is)) ∙ ap (λ k. goes k (item_valued i z)) (sym nn)))
+          (λ x k us g. sim_weaker T _ _ (λ v. item_end i z v) _ (λ v j vs. Took T n j) (λ v j vs l. record { nesting = l.nesting ∙ g.nesting }) (value_sim b i z k us (g.nesting ∙ nn) (sign_at us) refl))
       by_sign false is = (same_run T (item_sized i z) (item_end i z initialiser.Absent) ts refl (λ t us q. plain (sign_of_word t.word) (ap (λ y. same y sign.Assign) (sign_is T ts t us (sign_at ts) q refl) ∙ is)), record { nesting = refl })
 
   -- ---- objects
 
-  abbrev naming : At → TypeWords → List Item → Home → At → List ℕ → Naming
-  naming at t is h p f = record { at = at; words = t; done = is; home = h; item_at = p; name = f }
+  abbrev naming : At → TypeWords → List Item → Home → Identifier → Naming
+  naming at t is h f = record { at = at; words = t; done = is; home = h; name = f }
 
   abbrev after_object : At → TypeWords → List Item → Home → Item × Bool → State
   after_object at t is h x = cond x.1 (item_next at t (is ++ x.0 ∷ []) h) (conclude h (declaration.Objects at t (is ++ x.0 ∷ [])))
 
-  object_sim : (b : ℕ) (at : At) (t : TypeWords) (is : List Item) (h : Home) (p : At) (f : List ℕ) (n : ℕ) (ts : List Lexeme) → n ≡ home_nesting h → Sim T (d.object T b p f n ts) (run T ts (item_named (naming at t is h p f))) (λ x. item_ended at t (is ++ x ∷ []) h) (λ x k us. Took T n k)
+  object_sim : (b : ℕ) (at : At) (t : TypeWords) (is : List Item) (h : Home) (f : Identifier) (n : ℕ) (ts : List Lexeme) → n ≡ home_nesting h → Sim T (d.object T b f n ts) (run T ts (item_named (naming at t is h f))) (λ x. item_ended at t (is ++ x ∷ []) h) (λ x k us. Took T n k)
   unfolding d.object
-  object_sim b at t is h p f n ts nn = sim_then T (d.size T (r.read T b) n ts) _ (run T ts (item_named (naming at t is h p f))) (λ z. item_sized (naming at t is h p f) z) (λ z k us. Took T n k) (λ x. item_ended at t (is ++ x ∷ []) h) (λ x k us. Took T n k)
-      (size_sim b (naming at t is h p f) n ts nn)
-      (λ z k us g. sim_then T (d.initialiser T b k us) _ (run T us (item_sized (naming at t is h p f) z)) (λ v. item_end (naming at t is h p f) z v) (λ v j vs. Took T k j) (λ x. item_ended at t (is ++ x ∷ []) h) (λ x k us. Took T n k)
-      (initialiser_sim b (naming at t is h p f) z k us (g.nesting ∙ nn))
+  object_sim b at t is h f n ts nn = sim_then T (d.size T (r.read T b) n ts) _ (run T ts (item_named (naming at t is h f))) (λ z. item_sized (naming at t is h f) z) (λ z k us. Took T n k) (λ x. item_ended at t (is ++ x ∷ []) h) (λ x k us. Took T n k)
+      (size_sim b (naming at t is h f) n ts nn)
+      (λ z k us g. sim_then T (d.initialiser T b k us) _ (run T us (item_sized (naming at t is h f) z)) (λ v. item_end (naming at t is h f) z v) (λ v j vs. Took T k j) (λ x. item_ended at t (is ++ x ∷ []) h) (λ x k us. Took T n k)
+      (initialiser_sim b (naming at t is h f) z k us (g.nesting ∙ nn))
       (λ v j vs l. (refl, record { nesting = l.nesting ∙ g.nesting })))
 
-  next_object_sim : (b : ℕ) (at : At) (t : TypeWords) (is : List Item) (h : Home) (p : At) (f : List ℕ) (n : ℕ) (ts : List Lexeme) → n ≡ home_nesting h → Sim T (d.next_object T b p f n ts) (run T ts (item_named (naming at t is h p f))) (after_object at t is h) (λ x k us. Took T n k)
+  next_object_sim : (b : ℕ) (at : At) (t : TypeWords) (is : List Item) (h : Home) (f : Identifier) (n : ℕ) (ts : List Lexeme) → n ≡ home_nesting h → Sim T (d.next_object T b f n ts) (run T ts (item_named (naming at t is h f))) (after_object at t is h) (λ x k us. Took T n k)
   unfolding d.next_object
-  next_object_sim b at t is h p f n ts nn = sim_then T (d.object T b p f n ts) _ (run T ts (item_named (naming at t is h p f))) (λ x. item_ended at t (is ++ x ∷ []) h) (λ x k us. Took T n k) (after_object at t is h) (λ x k us. Took T n k)
-      (object_sim b at t is h p f n ts nn)
+  next_object_sim b at t is h f n ts nn = sim_then T (d.object T b f n ts) _ (run T ts (item_named (naming at t is h f))) (λ x. item_ended at t (is ++ x ∷ []) h) (λ x k us. Took T n k) (after_object at t is h) (λ x k us. Took T n k)
+      (object_sim b at t is h f n ts nn)
       (λ x k us g. sim_then T (more T sign.Semicolon k us) _ (run T us (item_ended at t (is ++ x ∷ []) h)) (λ c. after_object at t is h (x, c)) (λ c j vs. Took T k j) (after_object at t is h) (λ x k us. Took T n k)
       (sim_more T (item_ended at t (is ++ x ∷ []) h) (item_next at t (is ++ x ∷ []) h) (conclude h (declaration.Objects at t (is ++ x ∷ []))) sign.Semicolon k us refl
       (λ l vs q w. ap (λ y. m.on_ended at t (is ++ x ∷ []) h y) w ∙ ap (λ j. goes j (item_next at t (is ++ x ∷ []) h)) (sym (g.nesting ∙ nn)))
@@ -228,12 +235,12 @@ module _ (T : ℕ → Bool) where
   items_sim : (b : ℕ) (at : At) (t : TypeWords) (is : List Item) (h : Home) (n : ℕ) (ts : List Lexeme) → n ≡ home_nesting h → Sim T (d.items T b is n ts) (run T ts (item_next at t is h)) (λ xs. conclude h (declaration.Objects at t xs)) (λ x k us. Took T n k)
   unfolding d.items d.next_item
   items_sim zero at t is h n ts nn = tt
-  items_sim (suc b) at t is h n ts nn = sim_then T (and_then (name T n ts) (d.next_object T b (place_at ts))) _ (run T ts (item_next at t is h)) (after_object at t is h) (λ x k us. Took T n k) (λ xs. conclude h (declaration.Objects at t xs)) (λ x k us. Took T n k)
-      (sim_then T (name T n ts) (d.next_object T b (place_at ts)) (run T ts (item_next at t is h)) (λ f. item_named (naming at t is h (place_at ts) f)) (λ f k us. Took T n k) (after_object at t is h) (λ x k us. Took T n k)
-      (sim_name (item_next at t is h) (λ p f. item_named (naming at t is h p f)) n ts refl
-      (λ l f us q w. ap (λ y. m.on_next l.at y at t is h) w ∙ ap (λ k. goes k (item_named (naming at t is h l.at f))) (sym nn))
+  items_sim (suc b) at t is h n ts nn = sim_then T (and_then (name T n ts) (d.next_object T b)) _ (run T ts (item_next at t is h)) (after_object at t is h) (λ x k us. Took T n k) (λ xs. conclude h (declaration.Objects at t xs)) (λ x k us. Took T n k)
+      (sim_then T (name T n ts) (d.next_object T b) (run T ts (item_next at t is h)) (λ f. item_named (naming at t is h f)) (λ f k us. Took T n k) (after_object at t is h) (λ x k us. Took T n k)
+      (sim_name (item_next at t is h) (λ f. item_named (naming at t is h f)) n ts refl
+      (λ l f us q w. ap (λ y. m.on_next l.at y at t is h) w ∙ ap (λ k. goes k (item_named (naming at t is h (identifier l.at f)))) (sym nn))
       (λ l us q no_name. other l.at l.word no_name))
-      (λ f k us g. sim_weaker T _ _ (after_object at t is h) _ (λ x j vs. Took T n j) (λ x j vs l. record { nesting = l.nesting ∙ g.nesting }) (next_object_sim b at t is h (place_at ts) f k us (g.nesting ∙ nn))))
+      (λ f k us g. sim_weaker T _ _ (after_object at t is h) _ (λ x j vs. Took T n j) (λ x j vs l. record { nesting = l.nesting ∙ g.nesting }) (next_object_sim b at t is h f k us (g.nesting ∙ nn))))
       (λ x k us g. onward x.0 k us (items_sim b at t (is ++ x.0 ∷ []) h k us (g.nesting ∙ nn)) x.1 g)
     where
       other : (p : At) (w : Word) → ((f : List ℕ) → w ≡ a_name f → ⊥) → m.on_next p w at t is h ≡ None
@@ -246,10 +253,10 @@ module _ (T : ℕ → Bool) where
       onward x k us l true g = sim_weaker T _ _ (λ xs. conclude h (declaration.Objects at t xs)) _ (λ y j vs. Took T n j) (λ y j vs e. record { nesting = e.nesting ∙ g.nesting }) l
       onward x k us l false g = (refl, g)
 
-  objects_sim : (b : ℕ) (at : At) (t : TypeWords) (h : Home) (p : At) (f : List ℕ) (n : ℕ) (ts : List Lexeme) → n ≡ home_nesting h → Sim T (d.objects T b p f n ts) (run T ts (item_named (naming at t [] h p f))) (λ xs. conclude h (declaration.Objects at t xs)) (λ x k us. Took T n k)
+  objects_sim : (b : ℕ) (at : At) (t : TypeWords) (h : Home) (f : Identifier) (n : ℕ) (ts : List Lexeme) → n ≡ home_nesting h → Sim T (d.objects T b f n ts) (run T ts (item_named (naming at t [] h f))) (λ xs. conclude h (declaration.Objects at t xs)) (λ x k us. Took T n k)
   unfolding d.objects
-  objects_sim b at t h p f n ts nn = sim_then T (d.next_object T b p f n ts) _ (run T ts (item_named (naming at t [] h p f))) (after_object at t [] h) (λ x k us. Took T n k) (λ xs. conclude h (declaration.Objects at t xs)) (λ x k us. Took T n k)
-      (next_object_sim b at t [] h p f n ts nn)
+  objects_sim b at t h f n ts nn = sim_then T (d.next_object T b f n ts) _ (run T ts (item_named (naming at t [] h f))) (after_object at t [] h) (λ x k us. Took T n k) (λ xs. conclude h (declaration.Objects at t xs)) (λ x k us. Took T n k)
+      (next_object_sim b at t [] h f n ts nn)
       (λ x k us g. onward x.0 k us (items_sim b at t (x.0 ∷ []) h k us (g.nesting ∙ nn)) x.1 g)
     where
       onward : (x : Item) (k : ℕ) (us : List Lexeme) → Sim T (d.items T b (x ∷ []) k us) (run T us (item_next at t (x ∷ []) h)) (λ xs. conclude h (declaration.Objects at t xs)) (λ y j vs. Took T k j) → (c : Bool) → Took T n k → Sim T ((cond c (d.items T b (x ∷ [])) (pure (x ∷ []))) k us) (run T us (after_object at t [] h (x, c))) (λ xs. conclude h (declaration.Objects at t xs)) (λ y j vs. Took T n j)
@@ -258,26 +265,26 @@ module _ (T : ℕ → Bool) where
 
   -- ---- parameters
 
-  abbrev a_parameter : At → TypeWords → Option (List ℕ) → Parameter
+  abbrev a_parameter : At → TypeWords → Option Identifier → Parameter
   a_parameter p t f = record { at = p; words = t; name = f }
 
   if_any_sim : (k : Heading) (ps : List Parameter) (p : At) (ty : TypeWords) (n : ℕ) (ts : List Lexeme) → n ≡ home_nesting k.home → joined ty (sign_at ts) ≡ None → Sim T (name_if_any T n ts) (run T ts (parameter_typed k ps p ty)) (λ f. parameter_ended k (ps ++ a_parameter p ty f ∷ [])) (λ f j us. Took T n j)
   unfolding name_if_any
   if_any_sim k ps p ty n ts nn none = by_word (word_at ts) refl
     where
-      at_none : (t : Lexeme) (us : List Lexeme) → ts ≡ t ∷ us → step (parameter_typed k ps p ty) t ≡ m.on_parameter_name t.word k ps p ty
-      at_none t us q = ap (λ o. m.on_typed t.word o k ps p ty) (ap (λ x. joined ty x) (sign_is T ts t us (sign_at ts) q refl) ∙ none)
+      at_none : (t : Lexeme) (us : List Lexeme) → ts ≡ t ∷ us → step (parameter_typed k ps p ty) t ≡ m.on_parameter_name t.at t.word k ps p ty
+      at_none t us q = ap (λ o. m.on_typed t.at t.word o k ps p ty) (ap (λ x. joined ty x) (sign_is T ts t us (sign_at ts) q refl) ∙ none)
 
-      no_name : ((t : Lexeme) (us : List Lexeme) → ts ≡ t ∷ us → m.on_parameter_name t.word k ps p ty ≡ m.on_parameter_end k (ps ++ a_parameter p ty None ∷ []) (sign_of_word t.word)) → Sim T (pure {A = Option (List ℕ)} None n ts) (run T ts (parameter_typed k ps p ty)) (λ f. parameter_ended k (ps ++ a_parameter p ty f ∷ [])) (λ f j us. Took T n j)
+      no_name : ((t : Lexeme) (us : List Lexeme) → ts ≡ t ∷ us → m.on_parameter_name t.at t.word k ps p ty ≡ m.on_parameter_end k (ps ++ a_parameter p ty None ∷ []) (sign_of_word t.word)) → Sim T (pure {A = Option Identifier} None n ts) (run T ts (parameter_typed k ps p ty)) (λ f. parameter_ended k (ps ++ a_parameter p ty f ∷ [])) (λ f j us. Took T n j)
       no_name h = (same_run T (parameter_typed k ps p ty) (parameter_ended k (ps ++ a_parameter p ty None ∷ [])) ts refl (λ t us q. at_none t us q ∙ h t us q), record { nesting = refl })
 
-      by_word : (w : Word) → word_at ts ≡ w → Sim T (name_if_any_by T w n ts) (run T ts (parameter_typed k ps p ty)) (λ f. parameter_ended k (ps ++ a_parameter p ty f ∷ [])) (λ f j us. Took T n j)
-      by_word (a_name f) is = sim_then T (eat T n ts) _ (run T ts (parameter_typed k ps p ty)) (λ x. parameter_ended k (ps ++ a_parameter p ty (Some f) ∷ [])) (λ x j us. Took T n j) (λ f. parameter_ended k (ps ++ a_parameter p ty f ∷ [])) (λ f j us. Took T n j)
-          (sim_eat T (parameter_typed k ps p ty) (parameter_ended k (ps ++ a_parameter p ty (Some f) ∷ [])) n ts refl (λ t us q. at_none t us q ∙ ap (λ w. m.on_parameter_name w k ps p ty) (word_at_is T ts t us (a_name f) q is) ∙ ap (λ j. goes j (parameter_ended k (ps ++ a_parameter p ty (Some f) ∷ []))) (sym nn)))
+      by_word : (w : Word) → word_at ts ≡ w → Sim T (name_if_any_by T (place_at ts) w n ts) (run T ts (parameter_typed k ps p ty)) (λ f. parameter_ended k (ps ++ a_parameter p ty f ∷ [])) (λ f j us. Took T n j)
+      by_word (a_name f) is = sim_then T (eat T n ts) _ (run T ts (parameter_typed k ps p ty)) (λ x. parameter_ended k (ps ++ a_parameter p ty (Some (identifier (place_at ts) f)) ∷ [])) (λ x j us. Took T n j) (λ f. parameter_ended k (ps ++ a_parameter p ty f ∷ [])) (λ f j us. Took T n j)
+          (sim_eat T (parameter_typed k ps p ty) (parameter_ended k (ps ++ a_parameter p ty (Some (identifier (place_at ts) f)) ∷ [])) n ts refl (λ t us q. at_none t us q ∙ ap (λ w. m.on_parameter_name t.at w k ps p ty) (word_at_is T ts t us (a_name f) q is) ∙ ap (λ y. goes (home_nesting k.home) (parameter_ended k (ps ++ a_parameter p ty (Some (identifier y f)) ∷ []))) (place_is T ts t us q) ∙ ap (λ j. goes j (parameter_ended k (ps ++ a_parameter p ty (Some (identifier (place_at ts) f)) ∷ []))) (sym nn)))
           (λ x j us g. (refl, g))
-      by_word (a_number v e u) is = no_name (λ t us q. let w = word_at_is T ts t us (a_number v e u) q is in ap (λ y. m.on_parameter_name y k ps p ty) w ∙ ap (λ y. m.on_parameter_end k (ps ++ a_parameter p ty None ∷ []) (sign_of_word y)) (sym w))
-      by_word (a_character v) is = no_name (λ t us q. let w = word_at_is T ts t us (a_character v) q is in ap (λ y. m.on_parameter_name y k ps p ty) w ∙ ap (λ y. m.on_parameter_end k (ps ++ a_parameter p ty None ∷ []) (sign_of_word y)) (sym w))
-      by_word (a_sign x) is = no_name (λ t us q. let w = word_at_is T ts t us (a_sign x) q is in ap (λ y. m.on_parameter_name y k ps p ty) w ∙ ap (λ y. m.on_parameter_end k (ps ++ a_parameter p ty None ∷ []) (sign_of_word y)) (sym w))
+      by_word (a_number v e u) is = no_name (λ t us q. let w = word_at_is T ts t us (a_number v e u) q is in ap (λ y. m.on_parameter_name t.at y k ps p ty) w ∙ ap (λ y. m.on_parameter_end k (ps ++ a_parameter p ty None ∷ []) (sign_of_word y)) (sym w))
+      by_word (a_character v) is = no_name (λ t us q. let w = word_at_is T ts t us (a_character v) q is in ap (λ y. m.on_parameter_name t.at y k ps p ty) w ∙ ap (λ y. m.on_parameter_end k (ps ++ a_parameter p ty None ∷ []) (sign_of_word y)) (sym w))
+      by_word (a_sign x) is = no_name (λ t us q. let w = word_at_is T ts t us (a_sign x) q is in ap (λ y. m.on_parameter_name t.at y k ps p ty) w ∙ ap (λ y. m.on_parameter_end k (ps ++ a_parameter p ty None ∷ []) (sign_of_word y)) (sym w))
 
   parameter_sim : (k : Heading) (ps : List Parameter) (s : State) (n : ℕ) (ts : List Lexeme) → n ≡ home_nesting k.home → Words T s (λ ty. parameter_typed k ps (place_at ts) ty) n ts → Sim T (d.parameter T n ts) (run T ts s) (λ x. parameter_ended k (ps ++ x ∷ [])) (λ x j us. Took T n j)
   unfolding d.parameter
@@ -310,7 +317,7 @@ module _ (T : ℕ → Bool) where
   next_words k ps n ts nn = record {
     begins = λ t us q ty e. ap (λ o. m.on_parameter t.at o k ps) e ∙ ap (λ z. goes (home_nesting k.home) (parameter_typed k ps z ty)) (place_is T ts t us q) ∙ ap (λ j. goes j (parameter_typed k ps (place_at ts) ty)) (sym nn);
     others = λ t us q e. ap (λ o. m.on_parameter t.at o k ps) e;
-    extends = λ t ty v e. ap (λ o. m.on_typed t.word o k ps (place_at ts) ty) e ∙ ap (λ j. goes j (parameter_typed k ps (place_at ts) v)) (sym nn);
+    extends = λ t ty v e. ap (λ o. m.on_typed t.at t.word o k ps (place_at ts) ty) e ∙ ap (λ j. goes j (parameter_typed k ps (place_at ts) v)) (sym nn);
     open_first = refl;
     open_last = λ ty. refl;
   }
@@ -338,7 +345,7 @@ module _ (T : ℕ → Bool) where
   parameters_sim b k n ts nn s is = list_sim b k [] (parameters_first k) n ts nn (record {
     begins = λ t us q ty e. first_type t ty (sign_is T ts t us s q is) e ∙ ap (λ z. goes (home_nesting k.home) (parameter_typed k [] z ty)) (place_is T ts t us q) ∙ ap (λ j. goes j (parameter_typed k [] (place_at ts) ty)) (sym nn);
     others = λ t us q e. first_other t (sign_is T ts t us s q is) e;
-    extends = λ t ty v e. ap (λ o. m.on_typed t.word o k [] (place_at ts) ty) e ∙ ap (λ j. goes j (parameter_typed k [] (place_at ts) v)) (sym nn);
+    extends = λ t ty v e. ap (λ o. m.on_typed t.at t.word o k [] (place_at ts) ty) e ∙ ap (λ j. goes j (parameter_typed k [] (place_at ts) v)) (sym nn);
     open_first = refl;
     open_last = λ ty. refl;
   })
@@ -351,28 +358,28 @@ module _ (T : ℕ → Bool) where
 
   -- ---- headings
 
-  abbrev heading : At → Return → List ℕ → Home → Heading
+  abbrev heading : At → Return → Identifier → Home → Heading
   heading at g f h = record { at = at; gives = g; name = f; home = h }
 
   abbrev pub opened_by : Home → Opening → State
   opened_by h (opening_.Objects x) = conclude h x
   opened_by h (opening_.Function at g f qs) = header (heading at g f h) qs
 
-  heading_sim : (b : ℕ) (at : At) (g : Return) (p : At) (f : List ℕ) (h : Home) (n : ℕ) (ts : List Lexeme) → n ≡ home_nesting h → (g ≡ gives.Void ⊎ sign_at ts ≡ sign.LeftParen) → Sim T (d.heading T b at g f n ts) (run T ts (m.declared at g p f h)) (opened_by h) (λ x j us. Took T n j)
+  heading_sim : (b : ℕ) (at : At) (g : Return) (f : Identifier) (h : Home) (n : ℕ) (ts : List Lexeme) → n ≡ home_nesting h → (g ≡ gives.Void ⊎ sign_at ts ≡ sign.LeftParen) → Sim T (d.heading T b at g f n ts) (run T ts (m.declared at g f h)) (opened_by h) (λ x j us. Took T n j)
   unfolding d.heading d.parameters
-  heading_sim b at g p f h n ts nn may = sim_then T (expect T sign.LeftParen n ts) _ (run T ts (m.declared at g p f h)) (λ x. parameters_first (heading at g f h)) (λ x j us. Took T n j) (opened_by h) (λ x j us. Took T n j)
-      (sim_expect T (m.declared at g p f h) (parameters_first (heading at g f h)) sign.LeftParen n ts refl
-      (λ t us q w. ap (λ x. m.on_declared at g p f h x) w ∙ ap (λ j. goes j (parameters_first (heading at g f h))) (sym nn))
+  heading_sim b at g f h n ts nn may = sim_then T (expect T sign.LeftParen n ts) _ (run T ts (m.declared at g f h)) (λ x. parameters_first (heading at g f h)) (λ x j us. Took T n j) (opened_by h) (λ x j us. Took T n j)
+      (sim_expect T (m.declared at g f h) (parameters_first (heading at g f h)) sign.LeftParen n ts refl
+      (λ t us q w. ap (λ x. m.on_declared at g f h x) w ∙ ap (λ j. goes j (parameters_first (heading at g f h))) (sym nn))
       (λ t us q w. other may (sign_of_word t.word) w (λ is. sign_is T ts t us sign.LeftParen q is)))
       (λ x j us l. sim_then T (d.parameters_by T b (sign_at us) j us) _ (run T us (parameters_first (heading at g f h))) (λ qs. header (heading at g f h) qs) (λ qs i vs. Took T j i) (opened_by h) (λ x j us. Took T n j)
       (parameters_sim b (heading at g f h) j us (l.nesting ∙ nn) (sign_at us) refl)
       (λ qs i vs e. (refl, record { nesting = e.nesting ∙ l.nesting })))
     where
-      is_void : (g : Return) (s : Sign) → g ≡ gives.Void → same s sign.LeftParen ≡ false → m.on_declared at g p f h s ≡ None
+      is_void : (g : Return) (s : Sign) → g ≡ gives.Void → same s sign.LeftParen ≡ false → m.on_declared at g f h s ≡ None
       is_void g sign.LeftParen v w = absurd cc
-      is_void g s v w = subst (λ y. m.on_declared at y p f h s ≡ None) (sym v) refl
+      is_void g s v w = subst (λ y. m.on_declared at y f h s ≡ None) (sym v) refl
 
-      other : (g ≡ gives.Void ⊎ sign_at ts ≡ sign.LeftParen) → (s : Sign) → same s sign.LeftParen ≡ false → (sign_at ts ≡ sign.LeftParen → s ≡ sign.LeftParen) → m.on_declared at g p f h s ≡ None
+      other : (g ≡ gives.Void ⊎ sign_at ts ≡ sign.LeftParen) → (s : Sign) → same s sign.LeftParen ≡ false → (sign_at ts ≡ sign.LeftParen → s ≡ sign.LeftParen) → m.on_declared at g f h s ≡ None
       other (inl v) s w to = is_void g s v w
       other (inr e) s w to = absurd (apart (sym w ∙ ap (λ y. same y sign.LeftParen) (to e)))
         where
@@ -395,36 +402,36 @@ module _ (T : ℕ → Bool) where
   declared_name_other p at g (a_sign s) h k = refl
 
   -- the name behind a type or void
-  name_sim : (at : At) (g : Return) (h : Home) (n : ℕ) (ts : List Lexeme) → n ≡ home_nesting h → ((t : Lexeme) (us : List Lexeme) → ts ≡ t ∷ us → m.more_words g (sign_of_word t.word) ≡ None) → Sim T (name T n ts) (run T ts (declaring at g h)) (λ f. m.declared at g (place_at ts) f h) (λ f j us. Took T n j)
-  name_sim at g h n ts nn none = sim_name (declaring at g h) (λ p f. m.declared at g p f h) n ts refl
-      (λ t f us q w. ap (λ o. m.on_declaring t.at at g t.word o h) (none t us q) ∙ ap (λ y. m.on_declared_name t.at at g y h) w ∙ ap (λ j. goes j (m.declared at g t.at f h)) (sym nn))
+  name_sim : (at : At) (g : Return) (h : Home) (n : ℕ) (ts : List Lexeme) → n ≡ home_nesting h → ((t : Lexeme) (us : List Lexeme) → ts ≡ t ∷ us → m.more_words g (sign_of_word t.word) ≡ None) → Sim T (name T n ts) (run T ts (declaring at g h)) (λ f. m.declared at g f h) (λ f j us. Took T n j)
+  name_sim at g h n ts nn none = sim_name (declaring at g h) (λ f. m.declared at g f h) n ts refl
+      (λ t f us q w. ap (λ o. m.on_declaring t.at at g t.word o h) (none t us q) ∙ ap (λ y. m.on_declared_name t.at at g y h) w ∙ ap (λ j. goes j (m.declared at g (identifier t.at f) h)) (sym nn))
       (λ t us q k. ap (λ o. m.on_declaring t.at at g t.word o h) (none t us q) ∙ declared_name_other t.at at g t.word h k)
 
   typed_opening_sim : (b : ℕ) (at : At) (w : TypeWords) (h : Home) (n : ℕ) (ts : List Lexeme) → n ≡ home_nesting h → joined w (sign_at ts) ≡ None → Sim T (d.typed_opening T b at w n ts) (run T ts (declaring at (gives.Value w) h)) (opened_by h) (λ x j us. Took T n j)
   unfolding d.typed_opening
-  typed_opening_sim b at w h n ts nn none = sim_then T (name T n ts) _ (run T ts (declaring at (gives.Value w) h)) (λ f. m.declared at (gives.Value w) (place_at ts) f h) (λ f j us. Took T n j) (opened_by h) (λ x j us. Took T n j)
+  typed_opening_sim b at w h n ts nn none = sim_then T (name T n ts) _ (run T ts (declaring at (gives.Value w) h)) (λ f. m.declared at (gives.Value w) f h) (λ f j us. Took T n j) (opened_by h) (λ x j us. Took T n j)
       (name_sim at (gives.Value w) h n ts nn (λ t us q. ap (λ x. joined w x) (sign_is T ts t us (sign_at ts) q refl) ∙ none))
       (λ f j us g. by_sign f j us g (same (sign_at us) sign.LeftParen) refl)
     where
-      plain : (p : At) (f : List ℕ) (s : Sign) → same s sign.LeftParen ≡ false → m.on_declared at (gives.Value w) p f h s ≡ m.on_named (naming at w [] h p f) s
-      plain p f sign.LeftParen e = absurd cc
-      plain p f s e = refl
+      plain : (f : Identifier) (s : Sign) → same s sign.LeftParen ≡ false → m.on_declared at (gives.Value w) f h s ≡ m.on_named (naming at w [] h f) s
+      plain f sign.LeftParen e = absurd cc
+      plain f s e = refl
 
-      by_sign : (f : List ℕ) (j : ℕ) (us : List Lexeme) → Took T n j → (c : Bool) → same (sign_at us) sign.LeftParen ≡ c
-          → Sim T ((cond c (d.heading T b at (gives.Value w) f) (d.objects T b (place_at ts) f >>= (λ is. pure (opening_.Objects (declaration.Objects at w is))))) j us) (run T us (m.declared at (gives.Value w) (place_at ts) f h)) (opened_by h) (λ x i vs. Took T n i)
-      by_sign f j us g true is = sim_weaker T _ _ (opened_by h) _ (λ x i vs. Took T n i) (λ x i vs l. record { nesting = l.nesting ∙ g.nesting }) (heading_sim b at (gives.Value w) (place_at ts) f h j us (g.nesting ∙ nn) (inr (same_true the_type (search rules) (sign_at us) sign.LeftParen is)))
-      by_sign f j us g false is = sim_as T _ _ (run T us (item_named (naming at w [] h (place_at ts) f))) (opened_by h) (λ x i vs. Took T n i)
-          (same_run T (m.declared at (gives.Value w) (place_at ts) f h) (item_named (naming at w [] h (place_at ts) f)) us refl (λ t vs q. plain (place_at ts) f (sign_of_word t.word) (ap (λ y. same y sign.LeftParen) (sign_is T us t vs (sign_at us) q refl) ∙ is)))
-          (sim_then T (d.objects T b (place_at ts) f j us) _ (run T us (item_named (naming at w [] h (place_at ts) f))) (λ xs. conclude h (declaration.Objects at w xs)) (λ x i vs. Took T j i) (opened_by h) (λ x i vs. Took T n i)
-          (objects_sim b at w h (place_at ts) f j us (g.nesting ∙ nn))
+      by_sign : (f : Identifier) (j : ℕ) (us : List Lexeme) → Took T n j → (c : Bool) → same (sign_at us) sign.LeftParen ≡ c
+          → Sim T ((cond c (d.heading T b at (gives.Value w) f) (d.objects T b f >>= (λ is. pure (opening_.Objects (declaration.Objects at w is))))) j us) (run T us (m.declared at (gives.Value w) f h)) (opened_by h) (λ x i vs. Took T n i)
+      by_sign f j us g true is = sim_weaker T _ _ (opened_by h) _ (λ x i vs. Took T n i) (λ x i vs l. record { nesting = l.nesting ∙ g.nesting }) (heading_sim b at (gives.Value w) f h j us (g.nesting ∙ nn) (inr (same_true the_type (search rules) (sign_at us) sign.LeftParen is)))
+      by_sign f j us g false is = sim_as T _ _ (run T us (item_named (naming at w [] h f))) (opened_by h) (λ x i vs. Took T n i)
+          (same_run T (m.declared at (gives.Value w) f h) (item_named (naming at w [] h f)) us refl (λ t vs q. plain f (sign_of_word t.word) (ap (λ y. same y sign.LeftParen) (sign_is T us t vs (sign_at us) q refl) ∙ is)))
+          (sim_then T (d.objects T b f j us) _ (run T us (item_named (naming at w [] h f))) (λ xs. conclude h (declaration.Objects at w xs)) (λ x i vs. Took T j i) (opened_by h) (λ x i vs. Took T n i)
+          (objects_sim b at w h f j us (g.nesting ∙ nn))
           (λ xs i vs l. (refl, record { nesting = l.nesting ∙ g.nesting })))
 
   opening_sim : (b : ℕ) (s0 : State) (h : Home) (n : ℕ) (ts : List Lexeme) → n ≡ home_nesting h → Starts s0 h n ts → (s : Sign) → sign_at ts ≡ s → Sim T (d.opening_by T b (place_at ts) s n ts) (run T ts s0) (opened_by h) (λ x j us. Took T n j)
   opening_sim b s0 h n ts nn y sign.Void is = sim_then T (eat T n ts) _ (run T ts s0) (λ x. declaring (place_at ts) gives.Void h) (λ x j us. Took T n j) (opened_by h) (λ x j us. Took T n j)
       (sim_eat T s0 (declaring (place_at ts) gives.Void h) n ts y.ends (λ t us q. y.by_void t us q (sign_is T ts t us sign.Void q is)))
-      (λ x j us g. sim_then T (name T j us) _ (run T us (declaring (place_at ts) gives.Void h)) (λ f. m.declared (place_at ts) gives.Void (place_at us) f h) (λ f i vs. Took T j i) (opened_by h) (λ x j us. Took T n j)
+      (λ x j us g. sim_then T (name T j us) _ (run T us (declaring (place_at ts) gives.Void h)) (λ f. m.declared (place_at ts) gives.Void f h) (λ f i vs. Took T j i) (opened_by h) (λ x j us. Took T n j)
       (name_sim (place_at ts) gives.Void h j us (g.nesting ∙ nn) (λ t vs q. refl))
-      (λ f i vs l. sim_weaker T _ _ (opened_by h) _ (λ x k ws. Took T n k) (λ x k ws e. record { nesting = e.nesting ∙ l.nesting ∙ g.nesting }) (heading_sim b (place_at ts) gives.Void (place_at us) f h i vs (l.nesting ∙ g.nesting ∙ nn) (inl refl))))
+      (λ f i vs l. sim_weaker T _ _ (opened_by h) _ (λ x k ws. Took T n k) (λ x k ws e. record { nesting = e.nesting ∙ l.nesting ∙ g.nesting }) (heading_sim b (place_at ts) gives.Void f h i vs (l.nesting ∙ g.nesting ∙ nn) (inl refl))))
   opening_sim b s0 h n ts nn y s is = sim_then T (r.type_words T n ts) _ (run T ts s0) (λ ty. declaring (place_at ts) (gives.Value ty) h) (Typed T n) (opened_by h) (λ x j us. Took T n j)
       (types_sim T s0 (λ ty. declaring (place_at ts) (gives.Value ty) h) n ts (record {
         begins = y.by_type;

@@ -1,7 +1,6 @@
 -- What the reading of a whole list of tokens says.
 use Rattle.std.proofs.Common.{◌≡◌, ℕ, suc, ◌<◌, ◌≤◌, true, List, [], ◌∷◌, ◌++◌, length, Ok, Err, refl, sym, ap, subst, ◌∙◌, arith}
 use Rattle.c_tree.specs.declared.syntax.Syntax.{Syntax}
-use Rattle.c_tree.specs.declared.syntax.External.{External}
 use denote.Enum.Bare.{same_true}
 use Rattle.std.proofs.Common.{rules}
 use Rattle.c_grammar.specs.contracts.sign.Sign.{the_type}
@@ -19,33 +18,33 @@ use Rattle.c_reading.specs.declared.fault.Fault.{Fault}
 use Rattle.c_reading.specs.declared.fault.Fault.TheVariants as fault
 use Rattle.c_parser.specs.Answers.{Breaks, no_program, too_deep, reason_of}
 use Rattle.c_grammar.specs.Spelling.{Spelled, FirstBad, FirstDeep, Ended}
-use Rattle.c_reading.specs.Parsers.{Wrong, Deep, Out, Read, same, sign_at}
+use Rattle.c_reading.specs.Parsers.{Wrong, Deep, Out, Read, same, sign_at, place_at}
 use Rattle.c_reading.specs.Statements as st
 use Rattle.c_parser.proofs.Machine as m
 use Rattle.c_parser.proofs.Machine.{run, Outcome}
 use Rattle.c_parser.proofs.Whole.{tokens_of, shallow, okay, ok_same, Ran, Stuck, Sunk, outcome, read_spelled, stuck_at, sunk_at, never_behind, spelled_read}
 use Rattle.c_parser.proofs.Sim.{Sim}
-use Rattle.c_parser.proofs.StatSim.{parts_sim}
+use Rattle.c_parser.proofs.StatSim.{End_next, parts_sim}
 
-abbrev pub reading : ℕ → List Lexeme → Read (List External)
+abbrev pub reading : ℕ → List Lexeme → Read Syntax
 reading d us = st.parts shallow d [] 0 us
 
-abbrev Told : List Lexeme → Read (List External) → Type 0
-Told us a = Sim shallow a (run shallow us (m.program [])) (λ xs. m.program xs) (λ xs k r. same (sign_at r) sign.End ≡ true)
+abbrev Told : List Lexeme → Read Syntax → Type 0
+Told us a = Sim shallow a (run shallow us (m.program [])) (λ p. m.program p.parts) (λ p k r. End_next p r)
 
-told : (d : ℕ) (us : List Lexeme) (a : Read (List External)) → reading d us ≡ a → Told us a
+told : (d : ℕ) (us : List Lexeme) (a : Read Syntax) → reading d us ≡ a → Told us a
 told d us a e = subst (λ b. Told us b) e (parts_sim shallow d [] 0 us refl)
 
-ended_run : (xs : List External) (t : Lexeme) (r : List Lexeme) → same (sign_at (t ∷ r)) sign.End ≡ true → run shallow (t ∷ r) (m.program xs) ≡ okay xs
-unfolding sign_at
-ended_run xs t r h = at_end_sign (sign_of_word t.word) (same_true the_type (search rules) (sign_of_word t.word) sign.End h)
+ended_run : (p : Syntax) (t : Lexeme) (r : List Lexeme) → End_next p (t ∷ r) → run shallow (t ∷ r) (m.program p.parts) ≡ okay p
+unfolding sign_at place_at
+ended_run p t r h = at_end_sign (sign_of_word t.word) (same_true the_type (search rules) (sign_of_word t.word) sign.End h.sign) ∙ ap (λ (at : At). okay (record { parts = p.parts; end = at })) (sym h.place)
   where
-    accepted : (r : List Lexeme) → run shallow r (m.finished xs) ≡ okay xs
-    accepted [] = refl
-    accepted (x ∷ r) = refl
+    accepted : (a : Syntax) (r : List Lexeme) → run shallow r (m.finished a) ≡ okay a
+    accepted a [] = refl
+    accepted a (x ∷ r) = refl
 
-    at_end_sign : (s : Sign) → s ≡ sign.End → m.moved shallow (suc (length r)) (m.on_program t.at s xs) (λ s2. run shallow r s2) ≡ okay xs
-    at_end_sign s e = subst (λ y. m.moved shallow (suc (length r)) (m.on_program t.at y xs) (λ s2. run shallow r s2) ≡ okay xs) (sym e) (accepted r)
+    at_end_sign : (s : Sign) → s ≡ sign.End → m.moved shallow (suc (length r)) (m.on_program t.at s p.parts) (λ s2. run shallow r s2) ≡ okay (record { parts = p.parts; end = t.at })
+    at_end_sign s e = subst (λ y. m.moved shallow (suc (length r)) (m.on_program t.at y p.parts) (λ s2. run shallow r s2) ≡ okay (record { parts = p.parts; end = t.at })) (sym e) (accepted (record { parts = p.parts; end = t.at }) r)
 
 abbrev wrong_out : ℕ → Outcome
 wrong_out n = Err (Wrong n)
@@ -57,10 +56,10 @@ ran_at : (us : List Lexeme) (v : Outcome) → run shallow us (m.program []) ≡ 
 ran_at us v e = subst (λ w. Ran us w) e (outcome us)
 
 -- what was read up to the end is the tree
-pub found : (d : ℕ) (us : List Lexeme) (x : List External × ℕ × List Lexeme) → Ended us → reading d us ≡ Ok x → Spelled us (record { parts = x.0 })
+pub found : (d : ℕ) (us : List Lexeme) (x : Syntax × ℕ × List Lexeme) → Ended us → reading d us ≡ Ok x → Spelled us x.0
 found d us x en e = let p : Told us (Ok x) = told d us (Ok x) e in at_rest x.2 p.1 p.0
   where
-    at_rest : (r : List Lexeme) → same (sign_at r) sign.End ≡ true → run shallow us (m.program []) ≡ run shallow r (m.program x.0) → Spelled us (record { parts = x.0 })
+    at_rest : (r : List Lexeme) → End_next x.0 r → run shallow us (m.program []) ≡ run shallow r (m.program x.0.parts) → Spelled us x.0
     at_rest [] h v = let k : Stuck us 0 = ran_at us (wrong_out 0) v in absurd (never_behind us 0 k en (no_length k.back k.left))
       where
         no_length : (l : List Lexeme) → length l ≡ 0 → l ≡ []
@@ -91,43 +90,43 @@ pub deep_at : (d : ℕ) (us : List Lexeme) (j : ℕ) → reading d us ≡ Err (D
 deep_at d us j e = let k : Sunk us j = ran_at us (Err (Deep j)) (told d us (Err (Deep j)) e) in record { before = tokens_of k.taken; token = k.token; rest = k.back; split = k.split; left = k.left; what = sunk_at us j k }
 
 -- what is spelled within the nesting is read so, unless the bound on calls runs out
-abbrev pub Reads_so : Syntax → Read (List External) → Type 0
-Reads_so p (Ok x) = x.0 ≡ p.parts
+abbrev pub Reads_so : Syntax → Read Syntax → Type 0
+Reads_so p (Ok x) = x.0 ≡ p
 Reads_so p (Err Out) = Unit {0}
 Reads_so p (Err _) = ⊥
 
-pub only : (d : ℕ) (us : List Lexeme) (p : Syntax) → Spelled us p → (a : Read (List External)) → reading d us ≡ a → Reads_so p a
+pub only : (d : ℕ) (us : List Lexeme) (p : Syntax) → Spelled us p → (a : Read Syntax) → reading d us ≡ a → Reads_so p a
 only d us p s (Ok x) e = let q : Told us (Ok x) = told d us (Ok x) e in rest_of x.2 q.1 (sym q.0 ∙ spelled_read p us s)
   where
-    rest_of : (r : List Lexeme) → same (sign_at r) sign.End ≡ true → run shallow r (m.program x.0) ≡ okay p.parts → x.0 ≡ p.parts
+    rest_of : (r : List Lexeme) → End_next x.0 r → run shallow r (m.program x.0.parts) ≡ okay p → x.0 ≡ p
     rest_of [] h v = absurd cc
-    rest_of (t ∷ r) h v = ok_same x.0 p.parts (sym (ended_run x.0 t r h) ∙ v)
+    rest_of (t ∷ r) h v = ok_same x.0 p (sym (ended_run x.0 t r h) ∙ v)
 only d us p s (Err (Wrong j)) e = apart (sym (told d us (Err (Wrong j)) e) ∙ spelled_read p us s)
   where
-    apart : wrong_out j ≡ okay p.parts → ⊥
+    apart : wrong_out j ≡ okay p → ⊥
     apart h = absurd cc
 only d us p s (Err (Deep j)) e = apart (sym (told d us (Err (Deep j)) e) ∙ spelled_read p us s)
   where
-    apart : deep_out j ≡ okay p.parts → ⊥
+    apart : deep_out j ≡ okay p → ⊥
     apart h = absurd cc
 only d us p s (Err Out) e = tt
 
 -- ---- what the parser answers
 
-pub found_value : (d : ℕ) (us : List Lexeme) (xs : List External) → Ended us → value_of (reading d us) ≡ Ok xs → Spelled us (record { parts = xs })
-found_value d us xs en e = by_read (reading d us) refl e
+pub found_value : (d : ℕ) (us : List Lexeme) (a : Syntax) → Ended us → value_of (reading d us) ≡ Ok a → Spelled us a
+found_value d us a en e = by_read (reading d us) refl e
   where
-    by_read : (a : Read (List External)) → reading d us ≡ a → value_of a ≡ Ok xs → Spelled us (record { parts = xs })
-    by_read (Ok x) is v = let f : x.0 ≡ xs = cc in subst (λ y. Spelled us (record { parts = y })) f (found d us x en is)
+    by_read : (r : Read Syntax) → reading d us ≡ r → value_of r ≡ Ok a → Spelled us a
+    by_read (Ok x) is v = let f : x.0 ≡ a = cc in subst (λ y. Spelled us y) f (found d us x en is)
     by_read (Err (Wrong j)) is v = absurd cc
     by_read (Err (Deep j)) is v = absurd cc
     by_read (Err Out) is v = absurd cc
 
-pub only_value : (d : ℕ) (us : List Lexeme) (xs : List External) (p : Syntax) → Spelled us p → value_of (reading d us) ≡ Ok xs → record { parts = xs } ≡ p
-only_value d us xs p s e = by_read (reading d us) refl e
+pub only_value : (d : ℕ) (us : List Lexeme) (a p : Syntax) → Spelled us p → value_of (reading d us) ≡ Ok a → a ≡ p
+only_value d us a p s e = by_read (reading d us) refl e
   where
-    by_read : (a : Read (List External)) → reading d us ≡ a → value_of a ≡ Ok xs → record { parts = xs } ≡ p
-    by_read (Ok x) is v = let f : x.0 ≡ xs = cc in let g : x.0 ≡ p.parts = only d us p s (Ok x) is in λ i. record { parts = (sym f ∙ g) i }
+    by_read : (r : Read Syntax) → reading d us ≡ r → value_of r ≡ Ok a → a ≡ p
+    by_read (Ok x) is v = let f : x.0 ≡ a = cc in sym f ∙ only d us p s (Ok x) is
     by_read (Err (Wrong j)) is v = absurd cc
     by_read (Err (Deep j)) is v = absurd cc
     by_read (Err Out) is v = absurd cc
@@ -171,16 +170,16 @@ refused_deep d tokens j reason e h = let f = deep_at d (lexemes tokens) j e in t
 
 -- ---- the same of the vector that the tokens stand in
 
-pub ok_found : (d : ℕ) (s v : List Token) (xs : List External) → s ≡ v → Ended (lexemes v) → value_of (reading d (lexemes s)) ≡ Ok xs → Spelled (lexemes v) (record { parts = xs })
-ok_found d s v xs e en h = subst (λ l. Spelled (lexemes l) (record { parts = xs })) e (found_value d (lexemes s) xs (subst (λ l. Ended (lexemes l)) (sym e) en) h)
+pub ok_found : (d : ℕ) (s v : List Token) (a : Syntax) → s ≡ v → Ended (lexemes v) → value_of (reading d (lexemes s)) ≡ Ok a → Spelled (lexemes v) a
+ok_found d s v a e en h = subst (λ l. Spelled (lexemes l) a) e (found_value d (lexemes s) a (subst (λ l. Ended (lexemes l)) (sym e) en) h)
 
-pub ok_only : (d : ℕ) (s v : List Token) (xs : List External) → s ≡ v → value_of (reading d (lexemes s)) ≡ Ok xs → (p : Syntax) → Spelled (lexemes v) p → record { parts = xs } ≡ p
-ok_only d s v xs e h p sp = only_value d (lexemes s) xs p (subst (λ l. Spelled (lexemes l) p) (sym e) sp) h
+pub ok_only : (d : ℕ) (s v : List Token) (a : Syntax) → s ≡ v → value_of (reading d (lexemes s)) ≡ Ok a → (p : Syntax) → Spelled (lexemes v) p → a ≡ p
+ok_only d s v a e h p sp = only_value d (lexemes s) a p (subst (λ l. Spelled (lexemes l) p) (sym e) sp) h
 
-pub is_wrong : (r : Read (List External)) (f : Fault) (j : ℕ) → f ≡ fault.Wrong j → Fails r f → r ≡ Err (Wrong j)
+pub is_wrong : (r : Read Syntax) (f : Fault) (j : ℕ) → f ≡ fault.Wrong j → Fails r f → r ≡ Err (Wrong j)
 is_wrong r f j e h = let k : Fails r (fault.Wrong j) = subst (λ x. Fails r x) e h in k
 
-pub is_deep : (r : Read (List External)) (f : Fault) (j : ℕ) → f ≡ fault.Deep j → Fails r f → r ≡ Err (Deep j)
+pub is_deep : (r : Read Syntax) (f : Fault) (j : ℕ) → f ≡ fault.Deep j → Fails r f → r ≡ Err (Deep j)
 is_deep r f j e h = let k : Fails r (fault.Deep j) = subst (λ x. Fails r x) e h in k
 
 pub wrong_only : (d : ℕ) (s v : List Token) (j : ℕ) → s ≡ v → reading d (lexemes s) ≡ Err (Wrong j) → (p : Syntax) → Spelled (lexemes v) p → ⊥

@@ -14,7 +14,9 @@ use Rattle.c_reading.specs.Parsers.{Wrong, Deep, Out, same, Read, Parser, ◌>>=
 use Rattle.c_reading.specs.Expressions as r
 use Rattle.c_reading.specs.Trees as q
 use Rattle.c_parser.proofs.Asked.{place_of, type_of}
+use Rattle.c_tree.specs.declared.syntax.Identifier.{Identifier}
 use Rattle.c_tree.specs.declared.syntax.Return.{Return}
+use Rattle.c_tree.specs.declared.syntax.Syntax.{Syntax}
 use Rattle.c_tree.specs.declared.syntax.Return.TheVariants as gives
 use Rattle.c_tree.specs.declared.syntax.Parameters.{Parameters}
 use Rattle.c_tree.specs.declared.syntax.Declaration.TheVariants as declaration
@@ -38,7 +40,7 @@ use Rattle.c_parser.proofs.DeclSim.{is_no_sign, is_a_sign, use_step, expected_si
 pub data Open_block : Type 0 where
   of_block : At → List Under → Open_block
   of_switch : At → Expr → List Under → Open_block
-  of_body : List External → At → Return → List ℕ → Parameters → Open_block
+  of_body : List External → At → Return → Identifier → Parameters → Open_block
 
 abbrev pub unders : Open_block → List Statement → List Under
 unders (of_block at us) ss = m.in_block at ss ∷ us
@@ -61,6 +63,11 @@ Nothing x n us = Unit {0}
 same_cond : {A : Type 0} (b : Bool) (x y : A) → x ≡ y → cond b x y ≡ y
 same_cond true x y e = e
 same_cond false x y e = refl
+
+-- the end of the program is what is left
+pub record End_next (p : Syntax) (us : List Lexeme) : Type 0 where
+  pub sign : same (sign_at us) sign.End ≡ true
+  pub place : p.end ≡ place_at us
 
 module _ (T : ℕ → Bool) where
   -- the next word begins a statement
@@ -563,7 +570,7 @@ module _ (T : ℕ → Bool) where
   top_other p ps sign.Unsigned t v i e = absurd cc
   top_other p ps x t v i e = refl
 
-  abbrev head : At → Return → List ℕ → List External → Heading
+  abbrev head : At → Return → Identifier → List External → Heading
   head at g f ps = record { at = at; gives = g; name = f; home = m.at_top ps }
 
   part_sim : (b : ℕ) (ps : List External) (o : Opening) (n : ℕ) (ts : List Lexeme) → n ≡ 0 → Sim T (st.part T b o n ts) (run T ts (opened_by T (m.at_top ps) o)) (λ x. m.program (ps ++ x ∷ [])) (λ x k vs. Took T n k)
@@ -600,14 +607,14 @@ module _ (T : ℕ → Bool) where
       }))
       (λ o k vs g. sim_weaker T _ _ (λ x. m.program (ps ++ x ∷ [])) _ (λ x j ws. Took T n j) (λ x j ws h. record { nesting = h.nesting ∙ g.nesting }) (part_sim b ps o k vs (g.nesting ∙ nn)))
 
-  pub parts_sim : (b : ℕ) (ps : List External) (n : ℕ) (ts : List Lexeme) → n ≡ 0 → Sim T (st.parts T b ps n ts) (run T ts (m.program ps)) (λ xs. m.program xs) (λ xs k us. same (sign_at us) sign.End ≡ true)
+  pub parts_sim : (b : ℕ) (ps : List External) (n : ℕ) (ts : List Lexeme) → n ≡ 0 → Sim T (st.parts T b ps n ts) (run T ts (m.program ps)) (λ p. m.program p.parts) (λ p k us. End_next p us)
   unfolding st.parts st.external
   parts_sim zero ps n ts nn = tt
   parts_sim (suc b) ps n ts nn = by_sign (λ x k vs e. parts_sim b (ps ++ x ∷ []) k vs e) (same (sign_at ts) sign.End) refl
     where
-      by_sign : ((x : External) (k : ℕ) (vs : List Lexeme) → k ≡ 0 → Sim T (st.parts T b (ps ++ x ∷ []) k vs) (run T vs (m.program (ps ++ x ∷ []))) (λ xs. m.program xs) (λ xs k us. same (sign_at us) sign.End ≡ true))
-          → (c : Bool) → same (sign_at ts) sign.End ≡ c → Sim T ((cond c (pure ps) (st.external T b >>= (λ x. st.parts T b (ps ++ x ∷ [])))) n ts) (run T ts (m.program ps)) (λ xs. m.program xs) (λ xs k us. same (sign_at us) sign.End ≡ true)
-      by_sign more_ true is = (refl, is)
-      by_sign more_ false is = sim_then T (st.external_by T b (place_at ts) (sign_at ts) n ts) _ (run T ts (m.program ps)) (λ x. m.program (ps ++ x ∷ [])) (λ x k vs. Took T n k) (λ xs. m.program xs) (λ xs k us. same (sign_at us) sign.End ≡ true)
+      by_sign : ((x : External) (k : ℕ) (vs : List Lexeme) → k ≡ 0 → Sim T (st.parts T b (ps ++ x ∷ []) k vs) (run T vs (m.program (ps ++ x ∷ []))) (λ p. m.program p.parts) (λ p k us. End_next p us))
+          → (c : Bool) → same (sign_at ts) sign.End ≡ c → Sim T ((cond c (pure (record { parts = ps; end = place_at ts })) (st.external T b >>= (λ x. st.parts T b (ps ++ x ∷ [])))) n ts) (run T ts (m.program ps)) (λ p. m.program p.parts) (λ p k us. End_next p us)
+      by_sign more_ true is = (refl, record { sign = is; place = refl })
+      by_sign more_ false is = sim_then T (st.external_by T b (place_at ts) (sign_at ts) n ts) _ (run T ts (m.program ps)) (λ x. m.program (ps ++ x ∷ [])) (λ x k vs. Took T n k) (λ p. m.program p.parts) (λ p k us. End_next p us)
           (external_sim b ps n ts nn is (sign_at ts) refl)
           (λ x k vs g. more_ x k vs (g.nesting ∙ nn))

@@ -8,7 +8,7 @@ use Rattle.c_tree.specs.declared.syntax.Expr.{Expr}
 use Rattle.c_grammar.specs.declared.sign.Sign.{Sign}
 use Rattle.c_grammar.specs.declared.sign.Sign.TheVariants as sign
 use Rattle.c_grammar.specs.Words.{Word, a_name, a_number, a_character, a_sign, sign_of_word, Lexeme}
-use Rattle.c_reading.specs.Parsers.{Wrong, same, Parser, ◌>>=◌, ◌>>◌, and_then, pure, wrong, peek, word_at, place_at, sign_at, eat, expect, more}
+use Rattle.c_reading.specs.Parsers.{Wrong, same, Parser, ◌>>=◌, ◌>>◌, and_then, pure, wrong, word_at, place_at, sign_at, eat, expect, more}
 use Rattle.c_reading.specs.Expressions as r
 use Rattle.c_parser.proofs.Asked.{type_of, joined}
 use Rattle.c_tree.specs.declared.syntax.Size.{Size}

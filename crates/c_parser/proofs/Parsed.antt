@@ -1,5 +1,5 @@
 -- What the reading of a whole list of tokens says.
-use Rattle.std.proofs.Common.{◌≡◌, ℕ, suc, ◌<◌, ◌≤◌, true, List, [], ◌∷◌, ◌++◌, length, Ok, Err, refl, sym, ap, subst, ◌∙◌, arith}
+use Rattle.std.proofs.Common.{◌≡◌, ℕ, suc, ◌<◌, ◌≤◌, List, [], ◌∷◌, ◌++◌, length, Ok, Err, refl, sym, ap, subst, ◌∙◌, arith}
 use Rattle.c_tree.specs.declared.syntax.Syntax.{Syntax}
 use denote.Enum.Bare.{same_true}
 use Rattle.std.proofs.Common.{rules}
@@ -18,7 +18,7 @@ use Rattle.c_reading.specs.declared.fault.Fault.{Fault}
 use Rattle.c_reading.specs.declared.fault.Fault.TheVariants as fault
 use Rattle.c_parser.specs.Answers.{Breaks, no_program, too_deep, reason_of}
 use Rattle.c_grammar.specs.Spelling.{Spelled, FirstBad, FirstDeep, Ended}
-use Rattle.c_reading.specs.Parsers.{Wrong, Deep, Out, Read, same, sign_at, place_at}
+use Rattle.c_reading.specs.Parsers.{Wrong, Deep, Out, Read, sign_at, place_at}
 use Rattle.c_reading.specs.Statements as st
 use Rattle.c_parser.proofs.Machine as m
 use Rattle.c_parser.proofs.Machine.{run, Outcome}

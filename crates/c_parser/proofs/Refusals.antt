@@ -8,7 +8,7 @@ use Rattle.c_tree.specs.declared.token.At.{At}
 use Rattle.c_tree.specs.declared.syntax.Syntax.{Syntax}
 use Rattle.c_grammar.specs.Words.{Lexeme}
 use Rattle.c_grammar.specs.Phrases.{Leaf}
-use Rattle.c_grammar.specs.Spelling.{Spells, Spelled, Shallow, Begins, FirstBad, FirstDeep, Ended, leaves_of_program}
+use Rattle.c_grammar.specs.Spelling.{Spells, Spelled, Shallow, Begins, FirstBad, FirstDeep, leaves_of_program}
 use Rattle.c_reading.specs.Parsers.{Wrong, Deep, Out}
 use Rattle.c_parser.specs.Answers.{Breaks, no_program, too_deep, reason_of}
 use Rattle.c_parser.specs.Law.{OneRefusal, NoTreeIsRefused, SpelledOrRefused}

@@ -3,7 +3,8 @@
 use crate::parse;
 use crate::printed::printed;
 use c_lexer::lex;
-use c_tree::{CFault, Syntax};
+use c_tree::syntax::{Declaration, External, Initialiser, Item, Parameter, Parameters};
+use c_tree::{At, CFault, Syntax};
 use std::alloc::{AllocError, Global};
 use std::test::Fail;
 use vp_io::Reason;
@@ -754,6 +755,80 @@ fn nesting_ends_at_200(rt: HostRuntime) -> Result<(), Fail> {
 fn blanks_are_an_empty_program(rt: HostRuntime) -> Result<(), Fail> {
     let tree = tree_of(rt.alloc(), b" \n\t /* */ \n")?;
     assert!(rt; tree.parts.is_empty());
+    assert_eq!(rt; tree.end, at(3, 1));
+    Ok(())
+}
+
+fn at(line: u32, column: u32) -> At {
+    At { line, column }
+}
+
+/// The place of a function's name.
+fn function_name(part: &External) -> Option<At> {
+    match part {
+        External::Declared(Declaration::Function(_, _, name, _)) => Some(name.at),
+        External::Defined { name, .. } => Some(name.at),
+        _ => None,
+    }
+}
+
+/// The place of the name of a function's first parameter.
+fn parameter_name(part: &External) -> Option<At> {
+    match part {
+        External::Defined {
+            parameters: Parameters::List(parameters),
+            ..
+        } => first_name(parameters.as_slice()),
+        _ => None,
+    }
+}
+
+fn first_name(parameters: &[Parameter]) -> Option<At> {
+    match parameters {
+        [
+            Parameter {
+                name: Some(name),
+                ..
+            },
+            ..
+        ] => Some(name.at),
+        _ => None,
+    }
+}
+
+/// The places of the first object's name and of the brace of its initialiser.
+fn name_and_brace(part: &External) -> Option<(At, At)> {
+    match part {
+        External::Declared(Declaration::Objects(_, _, items)) => first_object(items.as_slice()),
+        _ => None,
+    }
+}
+
+fn first_object(items: &[Item]) -> Option<(At, At)> {
+    match items {
+        [
+            Item {
+                name,
+                initialiser: Initialiser::List(brace, ..),
+                ..
+            },
+            ..
+        ] => Some((name.at, *brace)),
+        _ => None,
+    }
+}
+
+#[test]
+fn names_and_braces_have_their_places(rt: HostRuntime) -> Result<(), Fail> {
+    let source = b"int f(char a){}\nint\n b[1]= {2};\nvoid g();\n";
+    let tree = tree_of(rt.alloc(), source)?;
+    let parts = tree.parts.as_slice();
+    assert_eq!(rt; parts.len(), 3);
+    assert_eq!(rt; function_name(&parts[0]), Some(at(1, 5)));
+    assert_eq!(rt; parameter_name(&parts[0]), Some(at(1, 12)));
+    assert_eq!(rt; name_and_brace(&parts[1]), Some((at(3, 2), at(3, 8))));
+    assert_eq!(rt; function_name(&parts[2]), Some(at(4, 6)));
+    assert_eq!(rt; tree.end, at(5, 1));
     Ok(())
 }
 

@@ -130,9 +130,9 @@ statement_part a = open_ 1 a
 abbrev pub braces : List Said → List Part
 braces xs = the_sign sign.LeftBrace ∷ (each item xs ++ the_sign sign.RightBrace ∷ [])
 
--- a block is an open phrase
-abbrev pub block : List Said → Part
-block xs = open_ 0 (phrase (braces xs))
+-- a block, whose brace stands there, is an open phrase
+abbrev pub block : At → List Said → Part
+block at xs = open_ 0 (node at 0 (braces xs))
 
 abbrev pub started : Start → List Part
 started start.Absent = the_sign sign.Semicolon ∷ []
@@ -144,7 +144,7 @@ abbrev pub condition : Expr → List Part → List Part
 condition e more = the_sign sign.LeftParen ∷ value e ∷ the_sign sign.RightParen ∷ more
 
 abbrev pub statement : s.Statement-F Said → Said
-statement (s.Block at xs) = node at 2 (open_ 0 (node at 0 (braces xs)) ∷ [])
+statement (s.Block at xs) = node at 2 (block at xs ∷ [])
 statement (s.Declared d) = declared d
 statement (s.Evaluate at e) = node at 2 (maybe e ++ the_sign sign.Semicolon ∷ [])
 statement (s.If at e a None) = node at 1 (the_sign sign.If ∷ condition e (statement_part a ∷ []))
@@ -152,7 +152,7 @@ statement (s.If at e a (Some b)) = node at b.level (the_sign sign.If ∷ conditi
 statement (s.While at e a) = node at a.level (the_sign sign.While ∷ condition e (statement_part a ∷ []))
 statement (s.DoWhile at a e) = node at 2 (the_sign sign.Do ∷ statement_part a ∷ the_sign sign.While ∷ condition e (the_sign sign.Semicolon ∷ []))
 statement (s.For at begin test next a) = node at a.level (the_sign sign.For ∷ the_sign sign.LeftParen ∷ (started begin ++ (maybe test ++ the_sign sign.Semicolon ∷ (maybe next ++ the_sign sign.RightParen ∷ statement_part a ∷ []))))
-statement (s.Switch at e xs) = node at 2 (the_sign sign.Switch ∷ condition e (block xs ∷ []))
+statement (s.Switch at e xs) = node at 2 (the_sign sign.Switch ∷ condition e (open_ 0 (phrase (braces xs)) ∷ []))
 statement (s.Case at e a) = node at a.level (the_sign sign.Case ∷ constant e ∷ the_sign sign.Colon ∷ statement_part a ∷ [])
 statement (s.Default at a) = node at a.level (the_sign sign.Default ∷ the_sign sign.Colon ∷ statement_part a ∷ [])
 statement (s.Break at) = node at 2 (the_sign sign.Break ∷ the_sign sign.Semicolon ∷ [])
@@ -167,7 +167,7 @@ about_statement = fold-Statement Said statement
 abbrev pub part : External → Said
 part (external.Include at) = node at 0 (the_sign sign.Include ∷ [])
 part (external.Declared d) = declared d
-part (external.Defined at r n ps body) = node at 0 (returned r ++ called n ps (block (map about_statement body) ∷ []))
+part (external.Defined at r n ps brace body) = node at 0 (returned r ++ called n ps (block brace (map about_statement body) ∷ []))
 
 abbrev pub program : Syntax → Said
 program p = phrase (each piece (map part p.parts) ++ placed p.end (a_sign sign.End) ∷ [])

@@ -6,10 +6,10 @@ use Rattle.c_lexer.specs.declared.bytes.ByteClass.TheVariants.{Blank, LineBlank,
 abbrev pub within : ℕ → ℕ → ℕ → Bool
 within low high b = nat_le low b && nat_le b high
 
--- 9 to 13 are tab, line feed, vertical tab, form feed and carriage return
 abbrev pub is_letter : ℕ → Bool
 is_letter b = within 97 122 b || within 65 90 b || (b == 95)
 
+-- 9 to 13 are tab, line feed, vertical tab, form feed and carriage return
 abbrev pub is_in : ByteClass → ℕ → Bool
 is_in Blank b = (b == 32) || within 9 13 b
 is_in LineBlank b = (b == 32) || (b == 9) || within 11 13 b

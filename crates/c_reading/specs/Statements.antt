@@ -229,10 +229,11 @@ module _ (T : ℕ → Bool) where
   abbrev pub part_by : ℕ → Opening → Parser External
   part_by d (opening_.Objects x) = pure (external_.Declared x)
   part_by d (opening_.Function at r n ps) = do
+    brace ← place
     s ← peek
     if same s sign.LeftBrace then (do
       ss ← block (statements d)
-      pure (external_.Defined at r n ps ss)) else (do
+      pure (external_.Defined at r n ps brace ss)) else (do
         expect T sign.Semicolon
         pure (external_.Declared (declaration_.Function at r n ps)))
 

@@ -318,40 +318,20 @@ fn unary_operand(
     if depth == 0 {
         return Err(Fault::Out);
     }
+    let depth = depth - 1;
     let at = place(tokens);
     match peek(tokens) {
-        Sign::Increment => stepped(
-            alloc,
-            depth - 1,
-            at,
-            StepOperator::Increment,
-            nesting,
-            tokens,
-        ),
-        Sign::Decrement => stepped(
-            alloc,
-            depth - 1,
-            at,
-            StepOperator::Decrement,
-            nesting,
-            tokens,
-        ),
-        Sign::Plus => signed(alloc, depth - 1, at, UnaryOperator::Plus, nesting, tokens),
-        Sign::Minus => signed(alloc, depth - 1, at, UnaryOperator::Minus, nesting, tokens),
-        Sign::Tilde => signed(
-            alloc,
-            depth - 1,
-            at,
-            UnaryOperator::Complement,
-            nesting,
-            tokens,
-        ),
-        Sign::Exclamation => signed(alloc, depth - 1, at, UnaryOperator::Not, nesting, tokens),
+        Sign::Increment => stepped(alloc, depth, at, StepOperator::Increment, nesting, tokens),
+        Sign::Decrement => stepped(alloc, depth, at, StepOperator::Decrement, nesting, tokens),
+        Sign::Plus => signed(alloc, depth, at, UnaryOperator::Plus, nesting, tokens),
+        Sign::Minus => signed(alloc, depth, at, UnaryOperator::Minus, nesting, tokens),
+        Sign::Tilde => signed(alloc, depth, at, UnaryOperator::Complement, nesting, tokens),
+        Sign::Exclamation => signed(alloc, depth, at, UnaryOperator::Not, nesting, tokens),
         Sign::LeftParen => {
             let tokens = eat(nesting, tokens)?;
-            parenthesis(alloc, depth - 1, at, nesting, tokens)
+            parenthesis(alloc, depth, at, nesting, tokens)
         }
-        _ => primary(alloc, depth - 1, at, nesting, tokens),
+        _ => primary(alloc, depth, at, nesting, tokens),
     }
 }
 
@@ -411,29 +391,20 @@ fn primary(
     ensures reads { Reads (spec.primary shallow (spec.read shallow depth) at nesting (lexemes tokens.now)) result }
     ensures few { IfOk result (λ x. x.1 ≤ 201) }
 {
-    match tokens {
-        [
-            Token {
-                kind: TokenKind::Name(name),
-                ..
-            },
-            ..
-        ] => {
+    let [token, ..] = tokens else {
+        return Err(wrong(tokens));
+    };
+    match &token.kind {
+        TokenKind::Name(name) => {
             let name = Items::from_slice(alloc, name.as_slice())?;
             let tokens = eat(nesting, tokens)?;
             named(alloc, depth, at, name, nesting, tokens)
         }
-        [
-            Token {
-                kind: TokenKind::Number {
-                    value,
-                    decimal,
-                    unsigned,
-                },
-                ..
-            },
-            ..
-        ] => {
+        TokenKind::Number {
+            value,
+            decimal,
+            unsigned,
+        } => {
             let e = Expr::Number {
                 at,
                 value: *value,
@@ -443,13 +414,7 @@ fn primary(
             let tokens = eat(nesting, tokens)?;
             more_steps(alloc, depth, e, nesting, tokens)
         }
-        [
-            Token {
-                kind: TokenKind::Character(value),
-                ..
-            },
-            ..
-        ] => {
+        TokenKind::Character(value) => {
             let e = Expr::Character(at, *value);
             let tokens = eat(nesting, tokens)?;
             more_steps(alloc, depth, e, nesting, tokens)
@@ -557,23 +522,14 @@ fn more_steps(
     if depth == 0 {
         return Err(Fault::Out);
     }
+    let depth = depth - 1;
     match peek(tokens) {
-        Sign::Increment => stepped_behind(
-            alloc,
-            depth - 1,
-            e,
-            StepOperator::Increment,
-            nesting,
-            tokens,
-        ),
-        Sign::Decrement => stepped_behind(
-            alloc,
-            depth - 1,
-            e,
-            StepOperator::Decrement,
-            nesting,
-            tokens,
-        ),
+        Sign::Increment => {
+            stepped_behind(alloc, depth, e, StepOperator::Increment, nesting, tokens)
+        }
+        Sign::Decrement => {
+            stepped_behind(alloc, depth, e, StepOperator::Decrement, nesting, tokens)
+        }
         _ => Ok((e, nesting, tokens)),
     }
 }

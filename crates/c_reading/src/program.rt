@@ -31,12 +31,14 @@ fn part(
         Opening::Objects(declaration) => Ok((External::Declared(declaration), tokens)),
         Opening::Function(at, gives, name, parameters) => {
             if peek(tokens) == Sign::LeftBrace {
+                let brace = place(tokens);
                 let (body, tokens) = block(alloc, depth, nesting, tokens)?;
                 let part = External::Defined {
                     at,
                     gives,
                     name,
                     parameters,
+                    brace,
                     body,
                 };
                 return Ok((part, tokens));

@@ -201,6 +201,8 @@ pub enum External {
         gives: Return,
         name: Identifier,
         parameters: Parameters,
+        /// The place of the body's brace.
+        brace: At,
         body: Items<Statement>,
     },
 }

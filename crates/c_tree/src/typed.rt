@@ -1,13 +1,15 @@
 //! The typed tree of a source: names are resolved, and conversions are nodes.
 //!
-//! An object is named by its kind and its number, a function by its number in the tree.
+//! An object is named by its kind and its number, a function by its number in the tree. A value in
+//! the tree is a word of the machine, with the sign of its type.
 
 use crate::syntax::{BinaryOperator, StepOperator, UnaryOperator};
 use crate::token::At;
 use crate::types::CType;
 use sqlite_items::{Boxed, Items};
 
-/// An object or a parameter. A scalar has no length.
+/// An object or a parameter, with the place of its name where it is first declared. A scalar has no
+/// length.
 #[derive(Debug, Drop)]
 pub struct Object {
     pub name: Items<u8>,
@@ -26,18 +28,18 @@ pub struct Static {
 /// Which object a name stands for.
 #[derive(Clone, Copy, PartialEq, Eq, Debug)]
 pub enum Variable {
-    /// By the place in the tree's statics.
+    /// By its number among the tree's statics.
     Static(u32),
-    /// By the place in the function's parameters.
+    /// By its number among the function's parameters.
     Parameter(u32),
-    /// By the place in the function's locals.
+    /// By its number among the function's locals.
     Local(u32),
 }
 
 /// Which function is called.
 #[derive(Clone, Copy, PartialEq, Eq, Debug)]
 pub enum Callee {
-    /// By the place in the tree's functions.
+    /// By its number among the tree's functions.
     Defined(u32),
     Getchar,
     Putchar,
@@ -46,9 +48,11 @@ pub enum Callee {
 /// What a compound assignment computes of the left side's value and the right value.
 #[derive(Clone, Copy, PartialEq, Eq, Debug)]
 pub enum Operation {
+    /// Neither a logical operator nor a relation. It computes in the type of the right value, which
+    /// is converted already, or where it shifts in the promoted type of the left side.
     Operator(BinaryOperator),
-    /// A call of the function with this place in the tree's functions, with both values converted
-    /// to its parameters' types.
+    /// A call of the function with this number, with both values converted to its parameters'
+    /// types.
     Helper(u32),
 }
 
@@ -72,7 +76,7 @@ pub enum TypedExpr {
     Before(Head, StepOperator, Boxed<TypedExpr>),
     /// A step behind its operand.
     After(Head, Boxed<TypedExpr>, StepOperator),
-    /// A value of the expression's type, as a word of the machine.
+    /// A value of the expression's type.
     Constant(Head, u32),
     Object(Head, Variable),
     Element(Head, Variable, Boxed<TypedExpr>),
@@ -91,20 +95,33 @@ pub enum LocalInit {
     List(Items<TypedExpr>),
 }
 
-/// A statement, or the declaration of a local object.
+/// A local object, by its number among the function's locals, with its initialiser.
+#[derive(Drop)]
+pub struct Local {
+    pub number: u32,
+    pub init: LocalInit,
+}
+
+/// What stands before the first semicolon of a `for`.
+#[derive(Drop)]
+pub enum Start {
+    Absent,
+    Value(TypedExpr),
+    Declared(At, Items<Local>),
+}
+
+/// A statement, or a declaration of local objects.
 #[derive(Drop)]
 pub enum Stat {
     Block(At, Items<Stat>),
-    /// A local object, by its place in the function's locals.
-    Declare(At, u32, LocalInit),
+    /// A declaration of objects; that of a function leaves nothing in the tree.
+    Declare(At, Items<Local>),
     /// An expression statement; without an expression the null statement.
     Evaluate(At, Option<TypedExpr>),
     If(At, TypedExpr, Boxed<Stat>, Option<Boxed<Stat>>),
     While(At, TypedExpr, Boxed<Stat>),
     DoWhile(At, Boxed<Stat>, TypedExpr),
-    /// The first list has what stands before the first semicolon: declarations of objects, an
-    /// expression statement, or nothing.
-    For(At, Items<Stat>, Option<TypedExpr>, Option<TypedExpr>, Boxed<Stat>),
+    For(At, Start, Option<TypedExpr>, Option<TypedExpr>, Boxed<Stat>),
     Switch(At, TypedExpr, Items<Stat>),
     /// A case, with its value converted to the type of the switch.
     Case(At, u32, Boxed<Stat>),
@@ -114,7 +131,7 @@ pub enum Stat {
     Return(At, Option<TypedExpr>),
 }
 
-/// A function with a body, which is a block.
+/// A function with a body, which is a block, and the place of its name in the definition.
 #[derive(Drop)]
 pub struct Function {
     pub name: Items<u8>,
@@ -125,7 +142,8 @@ pub struct Function {
     pub at: At,
 }
 
-/// The statics and the functions of a source, each in the order of its first declaration.
+/// The statics of a source in the order of their first declarations, and its functions in that of
+/// their definitions.
 #[derive(Drop)]
 pub struct Typed {
     pub statics: Items<Static>,

@@ -30,7 +30,7 @@ HasCauseAsked (Some (Check description)) told before now output_before output_no
 HasCauseAsked (Some (Show machine)) told before now output_before output_now outcome = HasWriteCause output_before output_now outcome
 HasCauseAsked None told before now output_before output_now outcome = ⊤
 
--- no file was fetched but those that are named
+-- no fault was counted of a file that no word names
 abbrev pub CountsOnlyAsked : Option Asked → FaultCounts → FaultCounts → Type 0
 CountsOnlyAsked (Some (Compilation description source)) before now = CountsOnlyOf description source before now
 CountsOnlyAsked (Some (Check description)) before now = CountsOnly description before now

@@ -44,7 +44,7 @@ pub fn vpo<F: Files, S: Source, K: Sink, E: Sink>(
     ensures possible { IsOfAsked (request_of (bytes_of_words words.now.items)) result }
     // A fault is answered only where the object's count rose.
     ensures cause { HasCauseAsked (request_of (bytes_of_words words.now.items)) (F.files files.old) (F.faults files.old) (F.faults files.new) (K.faults output.old) (K.faults output.new) result }
-    // Only the files that the words name are fetched, and none is changed.
+    // No fault is counted of a file that no word names; words without a name fetch none, and no file is changed.
     ensures fetched { CountsOnlyAsked (request_of (bytes_of_words words.now.items)) (F.faults files.old) (F.faults files.new) }
     ensures not_fetched { NamesNoFile (request_of (bytes_of_words words.now.items)) → files.new ≡ files.old }
     ensures files_kept { F.files files.new ≡ F.files files.old }

@@ -446,25 +446,25 @@ module _ (T : ℕ → Bool) where
   unfolding d.opening
   openings_sim b s0 h n ts nn y = opening_sim b s0 h n ts nn y (sign_at ts) refl
 
-  header_sim : (k : Heading) (qs : Parameters) (n : ℕ) (ts : List Lexeme) → n ≡ home_nesting k.home → (m.on_body k qs k.home ≡ None ⊎ same (sign_at ts) sign.LeftBrace ≡ false) → Sim T (expect T sign.Semicolon n ts) (run T ts (header k qs)) (λ x. conclude k.home (declaration.Function k.at k.gives k.name qs)) (λ x j us. Took T n j)
+  header_sim : (k : Heading) (qs : Parameters) (n : ℕ) (ts : List Lexeme) → n ≡ home_nesting k.home → (((p : At) → m.on_body p k qs k.home ≡ None) ⊎ same (sign_at ts) sign.LeftBrace ≡ false) → Sim T (expect T sign.Semicolon n ts) (run T ts (header k qs)) (λ x. conclude k.home (declaration.Function k.at k.gives k.name qs)) (λ x j us. Took T n j)
   header_sim k qs n ts nn may = sim_expect T (header k qs) (conclude k.home (declaration.Function k.at k.gives k.name qs)) sign.Semicolon n ts refl
-      (λ t us q w. ap (λ x. m.on_header k qs x) w ∙ ap (λ j. goes j (conclude k.home (declaration.Function k.at k.gives k.name qs))) (sym nn))
-      (λ t us q w. other may (sign_of_word t.word) w (sign_is T ts t us (sign_at ts) q refl))
+      (λ t us q w. ap (λ x. m.on_header t.at k qs x) w ∙ ap (λ j. goes j (conclude k.home (declaration.Function k.at k.gives k.name qs))) (sym nn))
+      (λ t us q w. other may t.at (sign_of_word t.word) w (sign_is T ts t us (sign_at ts) q refl))
     where
-      other : (m.on_body k qs k.home ≡ None ⊎ same (sign_at ts) sign.LeftBrace ≡ false) → (s : Sign) → same s sign.Semicolon ≡ false → s ≡ sign_at ts → m.on_header k qs s ≡ None
-      other may sign.Semicolon w e = absurd cc
-      other (inl h) sign.LeftBrace w e = h
-      other (inr h) sign.LeftBrace w e = absurd (apart (sym (ap (λ x. same x sign.LeftBrace) e ∙ h)))
+      other : (((p : At) → m.on_body p k qs k.home ≡ None) ⊎ same (sign_at ts) sign.LeftBrace ≡ false) → (p : At) (s : Sign) → same s sign.Semicolon ≡ false → s ≡ sign_at ts → m.on_header p k qs s ≡ None
+      other may p sign.Semicolon w e = absurd cc
+      other (inl h) p sign.LeftBrace w e = h p
+      other (inr h) p sign.LeftBrace w e = absurd (apart (sym (ap (λ x. same x sign.LeftBrace) e ∙ h)))
         where
           apart : false ≡ true → ⊥
           apart z = absurd cc
-      other may s w e = refl
+      other may p s w e = refl
 
-  pub header_end : (k : Heading) (qs : Parameters) (n : ℕ) (ts : List Lexeme) → n ≡ home_nesting k.home → (m.on_body k qs k.home ≡ None ⊎ same (sign_at ts) sign.LeftBrace ≡ false) → Sim T (expect T sign.Semicolon n ts) (run T ts (header k qs)) (λ x. conclude k.home (declaration.Function k.at k.gives k.name qs)) (λ x j us. Took T n j)
+  pub header_end : (k : Heading) (qs : Parameters) (n : ℕ) (ts : List Lexeme) → n ≡ home_nesting k.home → (((p : At) → m.on_body p k qs k.home ≡ None) ⊎ same (sign_at ts) sign.LeftBrace ≡ false) → Sim T (expect T sign.Semicolon n ts) (run T ts (header k qs)) (λ x. conclude k.home (declaration.Function k.at k.gives k.name qs)) (λ x j us. Took T n j)
   header_end = header_sim
 
   -- a declaration that stands in a function
-  pub declaration_sim : (b : ℕ) (s0 : State) (h : Home) (n : ℕ) (ts : List Lexeme) → n ≡ home_nesting h → ((k : Heading) (qs : Parameters) → m.on_body k qs h ≡ None) → Starts s0 h n ts → Sim T (d.declaration T b n ts) (run T ts s0) (λ x. conclude h x) (λ x j us. Took T n j)
+  pub declaration_sim : (b : ℕ) (s0 : State) (h : Home) (n : ℕ) (ts : List Lexeme) → n ≡ home_nesting h → ((p : At) (k : Heading) (qs : Parameters) → m.on_body p k qs h ≡ None) → Starts s0 h n ts → Sim T (d.declaration T b n ts) (run T ts s0) (λ x. conclude h x) (λ x j us. Took T n j)
   unfolding d.declaration
   declaration_sim b s0 h n ts nn inner_ y = sim_then T (d.opening T b n ts) (d.declared T) (run T ts s0) (opened_by h) (λ x j us. Took T n j) (λ x. conclude h x) (λ x j us. Took T n j)
       (openings_sim b s0 h n ts nn y)
@@ -473,5 +473,5 @@ module _ (T : ℕ → Bool) where
       ends : (o : Opening) (j : ℕ) (us : List Lexeme) → Took T n j → Sim T (d.declared T o j us) (run T us (opened_by h o)) (λ x. conclude h x) (λ x i vs. Took T n i)
       ends (opening_.Objects x) j us g = (refl, g)
       ends (opening_.Function at r2 f qs) j us g = sim_then T (expect T sign.Semicolon j us) _ (run T us (header (heading at r2 f h) qs)) (λ x. conclude h (declaration.Function at r2 f qs)) (λ x i vs. Took T j i) (λ x. conclude h x) (λ x i vs. Took T n i)
-          (header_sim (heading at r2 f h) qs j us (g.nesting ∙ nn) (inl (inner_ (heading at r2 f h) qs)))
+          (header_sim (heading at r2 f h) qs j us (g.nesting ∙ nn) (inl (λ p. inner_ p (heading at r2 f h) qs)))
           (λ x i vs l. (refl, record { nesting = l.nesting ∙ g.nesting }))

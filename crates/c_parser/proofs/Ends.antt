@@ -144,10 +144,10 @@ done_filled (m.in_switch at e ss ∷ us) xs x ok f =
     let t : Lexeme × ℕ = (sign_token sign.RightBrace, suc (behind (suc (inside us)) (about e))) in
     let p : Reached (xs ++ t ∷ []) (got (tree_.Switch at e (ss ++ x ∷ [])) us) = next xs (sign_token sign.RightBrace) (want (add x (m.in_switch at e ss ∷ us))) (filled_block xs (m.in_switch at e ss ∷ us) x refl ok f) in
     fewer xs (t ∷ []) (done_filled us (xs ++ t ∷ []) (tree_.Switch at e (ss ++ x ∷ [])) ok.2 (got_filled (xs ++ t ∷ []) (tree_.Switch at e (ss ++ x ∷ [])) us p))
-done_filled (m.in_body ps at g n qs ss ∷ us) xs x ok f =
+done_filled (m.in_body ps at g n qs brace ss ∷ us) xs x ok f =
     let t : Lexeme × ℕ = (sign_token sign.RightBrace, 1) in
-    let qss : List External = ps ++ external.Defined at g n qs (ss ++ x ∷ []) ∷ [] in
-    let p : Reached (xs ++ t ∷ []) (m.program qss) = next xs (sign_token sign.RightBrace) (want (add x (m.in_body ps at g n qs ss ∷ us))) (filled_block xs (m.in_body ps at g n qs ss ∷ us) x refl ok f) in
+    let qss : List External = ps ++ external.Defined at g n qs brace (ss ++ x ∷ []) ∷ [] in
+    let p : Reached (xs ++ t ∷ []) (m.program qss) = next xs (sign_token sign.RightBrace) (want (add x (m.in_body ps at g n qs brace ss ∷ us))) (filled_block xs (m.in_body ps at g n qs brace ss ∷ us) x refl ok f) in
     fewer xs (t ∷ []) (done_program (xs ++ t ∷ []) qss p)
 
 done_got : (xs : Taken) (x : Statement) (us : List Under) → Reached xs (got x us) → Done xs

@@ -68,7 +68,7 @@ pub data Under : Type 0 where
   in_switch : At → Expr → List Statement → Under
   in_case : At → Expr → Under
   in_default : At → Under
-  in_body : List External → At → Return → Identifier → Parameters → List Statement → Under
+  in_body : List External → At → Return → Identifier → Parameters → At → List Statement → Under
 
 -- where a declaration stands
 pub data Home : Type 0 where
@@ -148,7 +148,7 @@ inside (in_for at s a b ∷ us) = maybe_behind (maybe_behind (start_behind (suc 
 inside (in_switch at e ss ∷ us) = suc (behind (suc (inside us)) (about e))
 inside (in_case at e ∷ us) = suc (inside us)
 inside (in_default at ∷ us) = suc (inside us)
-inside (in_body ps at r n qs ss ∷ us) = 1
+inside (in_body ps at r n qs brace ss ∷ us) = 1
 
 abbrev pub home_nesting : Home → ℕ
 home_nesting (at_top ps) = 0
@@ -328,7 +328,7 @@ on t s then_ else_ = cond (same t s) then_ else_
 abbrev pub add : Statement → List Under → List Under
 add s (in_block at ss ∷ us) = in_block at (ss ++ s ∷ []) ∷ us
 add s (in_switch at e ss ∷ us) = in_switch at e (ss ++ s ∷ []) ∷ us
-add s (in_body ps at r n qs ss ∷ us) = in_body ps at r n qs (ss ++ s ∷ []) ∷ us
+add s (in_body ps at r n qs brace ss ∷ us) = in_body ps at r n qs brace (ss ++ s ∷ []) ∷ us
 add s us = us
 
 abbrev pub for_next : At → Start → Option Expr → List Under → State
@@ -454,13 +454,13 @@ on_declaration at s None h other = on s sign.Void (goes (home_nesting h) (declar
 abbrev pub close_block : List Under → Next
 close_block (in_block at ss ∷ us) = goes (suc (suc (inside us))) (got (statement.Block at ss) us)
 close_block (in_switch at e ss ∷ us) = goes (suc (behind (suc (inside us)) (about e))) (got (statement.Switch at e ss) us)
-close_block (in_body ps at r n qs ss ∷ us) = goes 1 (program (ps ++ external.Defined at r n qs ss ∷ []))
+close_block (in_body ps at r n qs brace ss ∷ us) = goes 1 (program (ps ++ external.Defined at r n qs brace ss ∷ []))
 close_block us = None
 
 abbrev pub is_block : List Under → Bool
 is_block (in_block at ss ∷ us) = true
 is_block (in_switch at e ss ∷ us) = true
-is_block (in_body ps at r n qs ss ∷ us) = true
+is_block (in_body ps at r n qs brace ss ∷ us) = true
 is_block us = false
 
 abbrev pub on_item : At → Word → Sign → List Under → Next
@@ -538,14 +538,14 @@ abbrev pub on_typed : At → Word → Option TypeWords → Heading → List Para
 on_typed at w (Some more) h ps p t = goes (home_nesting h.home) (parameter_typed h ps p more)
 on_typed at w None h ps p t = on_parameter_name at w h ps p t
 
-abbrev pub on_body : Heading → Parameters → Home → Next
-on_body h qs (at_top ps) = goes 1 (want (in_body ps h.at h.gives h.name qs [] ∷ []))
-on_body h qs _ = None
+abbrev pub on_body : At → Heading → Parameters → Home → Next
+on_body brace h qs (at_top ps) = goes 1 (want (in_body ps h.at h.gives h.name qs brace [] ∷ []))
+on_body brace h qs _ = None
 
-abbrev pub on_header : Heading → Parameters → Sign → Next
-on_header h qs sign.Semicolon = goes (home_nesting h.home) (conclude h.home (declaration.Function h.at h.gives h.name qs))
-on_header h qs sign.LeftBrace = on_body h qs h.home
-on_header h qs _ = None
+abbrev pub on_header : At → Heading → Parameters → Sign → Next
+on_header at h qs sign.Semicolon = goes (home_nesting h.home) (conclude h.home (declaration.Function h.at h.gives h.name qs))
+on_header at h qs sign.LeftBrace = on_body at h qs h.home
+on_header at h qs _ = None
 
 abbrev pub on_program : At → Sign → List External → Next
 on_program at sign.Include ps = goes 0 (program (ps ++ external.Include at ∷ []))
@@ -586,7 +586,7 @@ step (parameters_first h) t = on_parameters t.at (sign_of_word t.word) h
 step (parameter_typed h ps p ty) t = on_typed t.at t.word (joined ty (sign_of_word t.word)) h ps p ty
 step (parameter_ended h ps) t = on_parameter_end h ps (sign_of_word t.word)
 step (parameter_next h ps) t = on_parameter t.at (type_of (sign_of_word t.word)) h ps
-step (header h qs) t = on_header h qs (sign_of_word t.word)
+step (header h qs) t = on_header t.at h qs (sign_of_word t.word)
 step (program ps) t = on_program t.at (sign_of_word t.word) ps
 step (finished p) t = None
 

@@ -17,8 +17,8 @@ use Rattle.c_tree.specs.declared.syntax.Declaration.TheVariants as declaration
 use Rattle.c_grammar.specs.declared.sign.Sign.{Sign}
 use Rattle.c_grammar.specs.declared.sign.Sign.TheVariants as sign
 use Rattle.c_grammar.specs.Words.{Word, a_sign, sign_of_word, Lexeme}
-use Rattle.c_grammar.specs.Phrases.{Leaf, leaf, Said, Part, stands, is_at, entry, behind, leaves_of, leaves_at, all_fit, open_, item, piece, commas, node, each, placed as placed_word, the_sign}
-use Rattle.c_grammar.specs.Grammar.{about, maybe, started, condition, statement_part, block, declared, about_statement, returned, called, listed, parameter, part, program}
+use Rattle.c_grammar.specs.Phrases.{Leaf, leaf, Said, Part, stands, is_at, entry, behind, leaves_of, leaves_at, all_fit, open_, item, piece, commas, node, each, phrase, placed as placed_word, the_sign}
+use Rattle.c_grammar.specs.Grammar.{about, maybe, started, condition, statement_part, braces, block, declared, about_statement, returned, called, listed, parameter, part, program}
 use Rattle.c_tree.specs.declared.syntax.Start.{Start}
 use Rattle.c_tree.specs.declared.syntax.Start.TheVariants as start
 use Rattle.c_tree.specs.declared.syntax.Statement.{Statement}
@@ -174,7 +174,7 @@ wanted_value us t h = same_cond (is_block us) _ _ (plain_item t.at t.word us (si
 abbrev pub after_block : List Under → State
 after_block (m.in_block at ss ∷ us) = got (tree_.Block at ss) us
 after_block (m.in_switch at e ss ∷ us) = got (tree_.Switch at e ss) us
-after_block (m.in_body ps at r n qs ss ∷ us) = m.program (ps ++ external.Defined at r n qs ss ∷ [])
+after_block (m.in_body ps at r n qs brace ss ∷ us) = m.program (ps ++ external.Defined at r n qs brace ss ∷ [])
 after_block us = want us
 
 abbrev adds : List Statement → List Under → List Under
@@ -185,28 +185,28 @@ inside_add : (x : Statement) (us : List Under) → is_block us ≡ true → insi
 inside_add x [] h = refl
 inside_add x (m.in_block at ss ∷ us) h = refl
 inside_add x (m.in_switch at e ss ∷ us) h = refl
-inside_add x (m.in_body ps at r n qs ss ∷ us) h = refl
+inside_add x (m.in_body ps at r n qs brace ss ∷ us) h = refl
 inside_add x (_ ∷ us) h = refl
 
 block_add : (x : Statement) (us : List Under) → is_block us ≡ true → is_block (add x us) ≡ true
 block_add x [] h = h
 block_add x (m.in_block at ss ∷ us) h = refl
 block_add x (m.in_switch at e ss ∷ us) h = refl
-block_add x (m.in_body ps at r n qs ss ∷ us) h = refl
+block_add x (m.in_body ps at r n qs brace ss ∷ us) h = refl
 block_add x (_ ∷ us) h = absurd cc
 
 close_step : (us : List Under) (p : At) → is_block us ≡ true → step (want us) (lex (a_sign sign.RightBrace) p) ≡ Some (inside us, after_block us)
 close_step [] p h = absurd cc
 close_step (m.in_block at ss ∷ us) p h = refl
 close_step (m.in_switch at e ss ∷ us) p h = refl
-close_step (m.in_body ps at r n qs ss ∷ us) p h = refl
+close_step (m.in_body ps at r n qs brace ss ∷ us) p h = refl
 close_step (_ ∷ us) p h = absurd cc
 
 settle_block : (x : Statement) (us : List Under) (t : Lexeme) → is_block us ≡ true → step (got x us) t ≡ step (want (add x us)) t
 settle_block x [] t h = absurd cc
 settle_block x (m.in_block at ss ∷ us) t h = refl
 settle_block x (m.in_switch at e ss ∷ us) t h = refl
-settle_block x (m.in_body ps at r n qs ss ∷ us) t h = refl
+settle_block x (m.in_body ps at r n qs brace ss ∷ us) t h = refl
 settle_block x (_ ∷ us) t h = absurd cc
 
 adds_block : (xs done : List Statement) (at : At) (us : List Under) → adds xs (m.in_block at done ∷ us) ≡ m.in_block at (done ++ xs) ∷ us
@@ -217,9 +217,9 @@ adds_switch : (xs done : List Statement) (at : At) (e : Expr) (us : List Under) 
 adds_switch [] done at e us = ap (λ l. m.in_switch at e l ∷ us) (sym (append-nil done))
 adds_switch (x ∷ xs) done at e us = adds_switch xs (done ++ x ∷ []) at e us ∙ ap (λ l. m.in_switch at e l ∷ us) (append_assoc done (x ∷ []) xs)
 
-adds_body : (xs done : List Statement) (ps : List External) (at : At) (r : Return) (n : Identifier) (qs : Parameters) (us : List Under) → adds xs (m.in_body ps at r n qs done ∷ us) ≡ m.in_body ps at r n qs (done ++ xs) ∷ us
-adds_body [] done ps at r n qs us = ap (λ l. m.in_body ps at r n qs l ∷ us) (sym (append-nil done))
-adds_body (x ∷ xs) done ps at r n qs us = adds_body xs (done ++ x ∷ []) ps at r n qs us ∙ ap (λ l. m.in_body ps at r n qs l ∷ us) (append_assoc done (x ∷ []) xs)
+adds_body : (xs done : List Statement) (ps : List External) (at : At) (r : Return) (n : Identifier) (qs : Parameters) (brace : At) (us : List Under) → adds xs (m.in_body ps at r n qs brace done ∷ us) ≡ m.in_body ps at r n qs brace (done ++ xs) ∷ us
+adds_body [] done ps at r n qs brace us = ap (λ l. m.in_body ps at r n qs brace l ∷ us) (sym (append-nil done))
+adds_body (x ∷ xs) done ps at r n qs brace us = adds_body xs (done ++ x ∷ []) ps at r n qs brace us ∙ ap (λ l. m.in_body ps at r n qs brace l ∷ us) (append_assoc done (x ∷ []) xs)
 
 opens_block : (us : List Under) → is_block us ≡ true → Opens (want us) (m.at_block us)
 opens_block us h = record { with_type = λ x t is p. ap (λ b. cond b (m.on_item p (a_sign x) x us) (m.on_statement p (a_sign x) x us)) h ∙ typed x t is p; with_void = λ p. ap (λ b. cond b (m.on_item p (a_sign sign.Void) sign.Void us) (m.on_statement p (a_sign sign.Void) sign.Void us)) h }
@@ -484,7 +484,7 @@ module _ (T : ℕ → Bool) where
       let f0 : ((all_fit (closed xs)) && true) ≡ true = p.1 in
       subst (λ s. Claims (tree_.Switch at e (trees xs)) s) (sym (told_switch at e (trees xs))) (from_all _ _ (omega arith)
       (λ us r l ts v mt go. begins us (λ z. expect sign.LeftParen (suc (inside us)) (operand [] (m.switch_ z us))) sign.Switch at _ _ refl (λ z. refl) ts v mt
-      (λ vs mv. condition_run e (m.switch_ at us) (expect sign.LeftBrace (suc (behind (suc (inside us)) (about e))) (want (m.in_switch at e [] ∷ us))) (block (map about_statement (trees xs)) ∷ []) refl refl p.0 r vs v mv
+      (λ vs mv. condition_run e (m.switch_ at us) (expect sign.LeftBrace (suc (behind (suc (inside us)) (about e))) (want (m.in_switch at e [] ∷ us))) (open_ 0 (phrase (braces (map about_statement (trees xs)))) ∷ []) refl refl p.0 r vs v mv
       (λ ws mw. took T (expect sign.LeftBrace (suc (behind (suc (inside us)) (about e))) (want (m.in_switch at e [] ∷ us))) (want (m.in_switch at e [] ∷ us)) ws v (λ z st. refl) mw
       (λ xs2 mx. items_run (m.in_switch at e [] ∷ us) refl xs (and_parts _ _ f0).0 r xs2 v mx
       (λ ys my. ap (λ s. run T ys s) (ap after_block (adds_switch (trees xs) [] at e us)) ∙ go ys my))))))
@@ -533,8 +533,8 @@ module _ (T : ℕ → Bool) where
   returned_fits (gives.Value words.SignedChar) ps h = h
   returned_fits (gives.Value _) ps h = h
 
-  abbrev bodied : Identifier → Parameters → List Statement → List Part
-  bodied n qs body = called n qs (block (map about_statement body) ∷ [])
+  abbrev bodied : Identifier → Parameters → At → List Statement → List Part
+  bodied n qs brace body = called n qs (block brace (map about_statement body) ∷ [])
 
   listed_fits : (qs : Parameters) (ps : List Part) → all_fit (listed qs ++ the_sign sign.RightParen ∷ ps) ≡ true → all_fit ps ≡ true
   listed_fits parameters.Empty ps h = h
@@ -549,13 +549,13 @@ module _ (T : ℕ → Bool) where
   external_run : (x : External) (ps : List External) → (part x).fits ≡ true → (r : List Leaf) → Goal (m.program ps) (m.program (ps ++ x ∷ [])) ((part x).leaves 0 r) r
   external_run (external.Include at) ps fits r ts v mt go = took T (m.program ps) (m.program (ps ++ external.Include at ∷ [])) ts v (λ q st. ap (λ z. goes 0 (m.program (ps ++ external.Include z ∷ []))) (sym st)) mt go
   external_run (external.Declared d) ps fits r ts v mt go = declaration_run T d (m.at_top ps) (m.program ps) (opens_top ps) fits r ts v mt go
-  external_run (external.Defined at g n qs body) ps fits r ts v mt go =
+  external_run (external.Defined at g n qs brace body) ps fits r ts v mt go =
       let f1 = (and_parts _ _ fits).1 in
-      let f2 : (all_fit (closed (known body)) && true) ≡ true = subst (λ l. (all_fit (each item (map about_statement l) ++ the_sign sign.RightBrace ∷ []) && true) ≡ true) (sym (known_trees body)) (listed_fits qs _ (returned_fits g (bodied n qs body) f1)) in
-      heading_run T at g n qs (block (map about_statement body) ∷ []) (m.at_top ps) (m.program ps) (opens_top ps) f1 r ts v mt
-      (λ vs mv. took T (header (record { at = at; gives = g; name = n; home = m.at_top ps }) qs) (want (m.in_body ps at g n qs [] ∷ [])) vs v (λ z st. refl) mv
-      (λ ws mw. items_run (m.in_body ps at g n qs [] ∷ []) refl (known body) (and_parts _ _ f2).0 r ws v (met_as T ws _ _ (ap (λ l. leaves_of (each item (map about_statement l) ++ the_sign sign.RightBrace ∷ []) 1 r) (sym (known_trees body))) mw)
-      (λ ys my. ap (λ s. run T ys s) (ap after_block (adds_body (trees (known body)) [] ps at g n qs [] ∙ ap (λ l. m.in_body ps at g n qs l ∷ []) (known_trees body))) ∙ go ys my)))
+      let f2 : (all_fit (closed (known body)) && true) ≡ true = subst (λ l. (all_fit (each item (map about_statement l) ++ the_sign sign.RightBrace ∷ []) && true) ≡ true) (sym (known_trees body)) (listed_fits qs _ (returned_fits g (bodied n qs brace body) f1)) in
+      heading_run T at g n qs (block brace (map about_statement body) ∷ []) (m.at_top ps) (m.program ps) (opens_top ps) f1 r ts v mt
+      (λ vs mv. took T (header (record { at = at; gives = g; name = n; home = m.at_top ps }) qs) (want (m.in_body ps at g n qs brace [] ∷ [])) vs v (λ z st. ap (λ p. goes 1 (want (m.in_body ps at g n qs p [] ∷ []))) (sym st)) mv
+      (λ ws mw. items_run (m.in_body ps at g n qs brace [] ∷ []) refl (known body) (and_parts _ _ f2).0 r ws v (met_as T ws _ _ (ap (λ l. leaves_of (each item (map about_statement l) ++ the_sign sign.RightBrace ∷ []) 1 r) (sym (known_trees body))) mw)
+      (λ ys my. ap (λ s. run T ys s) (ap after_block (adds_body (trees (known body)) [] ps at g n qs brace [] ∙ ap (λ l. m.in_body ps at g n qs brace l ∷ []) (known_trees body))) ∙ go ys my)))
 
   abbrev whole : List External → At → Outcome
   whole ps at = Ok (record { parts = ps; end = at })

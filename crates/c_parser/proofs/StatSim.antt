@@ -40,22 +40,22 @@ use Rattle.c_parser.proofs.DeclSim.{is_no_sign, is_a_sign, use_step, expected_si
 pub data Open_block : Type 0 where
   of_block : At → List Under → Open_block
   of_switch : At → Expr → List Under → Open_block
-  of_body : List External → At → Return → Identifier → Parameters → Open_block
+  of_body : List External → At → Return → Identifier → Parameters → At → Open_block
 
 abbrev pub unders : Open_block → List Statement → List Under
 unders (of_block at us) ss = m.in_block at ss ∷ us
 unders (of_switch at e us) ss = m.in_switch at e ss ∷ us
-unders (of_body ps at g f qs) ss = m.in_body ps at g f qs ss ∷ []
+unders (of_body ps at g f qs brace) ss = m.in_body ps at g f qs brace ss ∷ []
 
 abbrev pub nest : Open_block → ℕ
 nest (of_block at us) = suc (suc (inside us))
 nest (of_switch at e us) = suc (behind (suc (inside us)) (about e))
-nest (of_body ps at g f qs) = 1
+nest (of_body ps at g f qs brace) = 1
 
 abbrev pub closed : Open_block → List Statement → State
 closed (of_block at us) ss = got (tree_.Block at ss) us
 closed (of_switch at e us) ss = got (tree_.Switch at e ss) us
-closed (of_body ps at g f qs) ss = m.program (ps ++ external.Defined at g f qs ss ∷ [])
+closed (of_body ps at g f qs brace) ss = m.program (ps ++ external.Defined at g f qs brace ss ∷ [])
 
 abbrev Nothing : {A : Type 0} → A → ℕ → List Lexeme → Type 0
 Nothing x n us = Unit {0}
@@ -215,12 +215,12 @@ module _ (T : ℕ → Bool) where
       item_step : (c : Open_block) (t : Lexeme) → step (want (unders c ss)) t ≡ m.on_item t.at t.word (sign_of_word t.word) (unders c ss)
       item_step (of_block at us) t = refl
       item_step (of_switch at e us) t = refl
-      item_step (of_body ps at g f qs) t = refl
+      item_step (of_body ps at g f qs brace) t = refl
 
       nest_is : (c : Open_block) → inside (unders c ss) ≡ nest c
       nest_is (of_block at us) = refl
       nest_is (of_switch at e us) = refl
-      nest_is (of_body ps at g f qs) = refl
+      nest_is (of_body ps at g f qs brace) = refl
 
   plain_first : (t : Lexeme) (at : At) (us : List Under) (x : Sign) → q.begins_declaration x ≡ false → same x sign.Semicolon ≡ false → m.on_first t.at t.word x at us ≡ m.on_operand t.at t.word [] (m.start_ at us)
   unfolding q.begins_declaration
@@ -238,7 +238,7 @@ module _ (T : ℕ → Bool) where
     where
       by_decl : (c : Bool) → q.begins_declaration (sign_at ts) ≡ c → Sim T ((cond c (d.declaration T b >>= (λ x. pure (start.Declared x))) (r.read T b r.expr >>= (λ e. expect T sign.Semicolon >>= (λ y. pure (start.Value e))))) n ts) (run T ts (m.for_first at us)) (λ x. for_test at x us) (λ x k vs. k ≡ start_behind (suc (inside us)) x)
       by_decl true is = sim_then T (d.declaration T b n ts) _ (run T ts (m.for_first at us)) (λ x. conclude (m.at_start at us) x) (λ x k vs. Took T n k) (λ x. for_test at x us) (λ x k vs. k ≡ start_behind (suc (inside us)) x)
-          (declaration_sim T b (m.for_first at us) (m.at_start at us) n ts nn (λ k qs. refl) (start_starts at us n ts nn is))
+          (declaration_sim T b (m.for_first at us) (m.at_start at us) n ts nn (λ p k qs. refl) (start_starts at us n ts nn is))
           (λ x k vs g. (refl, g.nesting ∙ nn))
       by_decl false is = sim_as T _ (run T ts (m.for_first at us)) (run T ts (operand [] (m.start_ at us))) (λ x. for_test at x us) (λ x k vs. k ≡ start_behind (suc (inside us)) x)
           (same_run T (m.for_first at us) (operand [] (m.start_ at us)) ts refl (λ t r2 l. plain_first t at us (sign_of_word t.word) (ap q.begins_declaration (sign_is T ts t r2 (sign_at ts) l refl) ∙ is) (ap (λ y. same y sign.Semicolon) (sign_is T ts t r2 (sign_at ts) l refl) ∙ semi)))
@@ -497,27 +497,27 @@ module _ (T : ℕ → Bool) where
     item_step : (c : Open_block) (ss : List Statement) (t : Lexeme) → step (want (unders c ss)) t ≡ m.on_item t.at t.word (sign_of_word t.word) (unders c ss)
     item_step (of_block at us) ss t = refl
     item_step (of_switch at e us) ss t = refl
-    item_step (of_body ps at g f qs) ss t = refl
+    item_step (of_body ps at g f qs brace) ss t = refl
 
     nest_is : (c : Open_block) (ss : List Statement) → inside (unders c ss) ≡ nest c
     nest_is (of_block at us) ss = refl
     nest_is (of_switch at e us) ss = refl
-    nest_is (of_body ps at g f qs) ss = refl
+    nest_is (of_body ps at g f qs brace) ss = refl
 
     adds_one : (c : Open_block) (ss : List Statement) (x : Statement) → add x (unders c ss) ≡ unders c (ss ++ x ∷ [])
     adds_one (of_block at us) ss x = refl
     adds_one (of_switch at e us) ss x = refl
-    adds_one (of_body ps at g f qs) ss x = refl
+    adds_one (of_body ps at g f qs brace) ss x = refl
 
     settles : (c : Open_block) (ss : List Statement) (x : Statement) (t : Lexeme) → step (got x (unders c ss)) t ≡ step (want (unders c (ss ++ x ∷ []))) t
     settles (of_block at us) ss x t = refl
     settles (of_switch at e us) ss x t = refl
-    settles (of_body ps at g f qs) ss x t = refl
+    settles (of_body ps at g f qs brace) ss x t = refl
 
     closes_block : (c : Open_block) (ss : List Statement) (p : At) (w : Word) → m.on_item p w sign.RightBrace (unders c ss) ≡ goes (nest c) (closed c ss)
     closes_block (of_block at us) ss p w = refl
     closes_block (of_switch at e us) ss p w = refl
-    closes_block (of_body ps at g f qs) ss p w = refl
+    closes_block (of_body ps at g f qs brace) ss p w = refl
 
     block_item_sim : (c : Open_block) (ss : List Statement) (n : ℕ) (ts : List Lexeme) → n ≡ nest c → same (sign_at ts) sign.RightBrace ≡ false → Sim T (st.block_item T b S n ts) (run T ts (want (unders c ss))) (λ x. want (unders c (ss ++ x ∷ []))) (λ x k vs. Took T n k)
     unfolding st.block_item
@@ -525,7 +525,7 @@ module _ (T : ℕ → Bool) where
       where
         by_decl : (d0 : Bool) → q.begins_declaration (sign_at ts) ≡ d0 → Sim T ((cond d0 (d.declaration T b >>= (λ x. pure (tree_.Declared x))) S.one) n ts) (run T ts (want (unders c ss))) (λ x. want (unders c (ss ++ x ∷ []))) (λ x k vs. Took T n k)
         by_decl true is = sim_then T (d.declaration T b n ts) _ (run T ts (want (unders c ss))) (λ x. conclude (m.at_block (unders c ss)) x) (λ x k vs. Took T n k) (λ x. want (unders c (ss ++ x ∷ []))) (λ x k vs. Took T n k)
-            (declaration_sim T b (want (unders c ss)) (m.at_block (unders c ss)) n ts (nn ∙ sym (nest_is c ss)) (λ k qs. refl) (item_starts c ss n ts nn is))
+            (declaration_sim T b (want (unders c ss)) (m.at_block (unders c ss)) n ts (nn ∙ sym (nest_is c ss)) (λ p k qs. refl) (item_starts c ss n ts nn is))
             (λ x k vs g. (ap (λ us. run T vs (want us)) (adds_one c ss (tree_.Declared x)), g))
         by_decl false is = sim_weaker_state (sim_as T (S.one n ts) (run T ts (want (unders c ss))) (run T ts (want (unders c ss))) (λ x. got x (unders c ss)) (λ x k vs. Took T n k) refl
             (S_reads.one (unders c ss) n ts (nn ∙ sym (nest_is c ss)) (λ t rest l. item_step c ss t ∙ plain_item t.at t.word (unders c ss) (sign_of_word t.word) (ap q.begins_declaration (sign_is T ts t rest (sign_at ts) l refl) ∙ is) (ap (λ y. same y sign.RightBrace) (sign_is T ts t rest (sign_at ts) l refl) ∙ brace))))
@@ -584,10 +584,10 @@ module _ (T : ℕ → Bool) where
           apart : false ≡ true → ⊥
           apart z = absurd cc
 
-      by_sign : (c : Bool) → same (sign_at ts) sign.LeftBrace ≡ c → Sim T ((cond c (st.block T (st.statements T b) >>= (λ ss. pure (external.Defined at g f qs ss))) (expect T sign.Semicolon >>= (λ x. pure (external.Declared (declaration.Function at g f qs))))) n ts) (run T ts (header (head at g f ps) qs)) (λ x. m.program (ps ++ x ∷ [])) (λ x k vs. Took T n k)
-      by_sign true is = sim_then T (st.block T (st.statements T b) n ts) _ (run T ts (header (head at g f ps) qs)) (closed (of_body ps at g f qs)) (λ x k vs. Took T n k) (λ x. m.program (ps ++ x ∷ [])) (λ x k vs. Took T n k)
-          (block_sim b (st.statements T b) (stats_read b) (of_body ps at g f qs) (header (head at g f ps) qs) n ts (ap suc nn) refl
-          (λ t rest l w. ap (λ y. m.on_header (head at g f ps) qs y) w ∙ ap (λ k. goes (suc k) (want (m.in_body ps at g f qs [] ∷ []))) (sym nn))
+      by_sign : (c : Bool) → same (sign_at ts) sign.LeftBrace ≡ c → Sim T ((cond c (st.block T (st.statements T b) >>= (λ ss. pure (external.Defined at g f qs (place_at ts) ss))) (expect T sign.Semicolon >>= (λ x. pure (external.Declared (declaration.Function at g f qs))))) n ts) (run T ts (header (head at g f ps) qs)) (λ x. m.program (ps ++ x ∷ [])) (λ x k vs. Took T n k)
+      by_sign true is = sim_then T (st.block T (st.statements T b) n ts) _ (run T ts (header (head at g f ps) qs)) (closed (of_body ps at g f qs (place_at ts))) (λ x k vs. Took T n k) (λ x. m.program (ps ++ x ∷ [])) (λ x k vs. Took T n k)
+          (block_sim b (st.statements T b) (stats_read b) (of_body ps at g f qs (place_at ts)) (header (head at g f ps) qs) n ts (ap suc nn) refl
+          (λ t rest l w. ap (λ y. m.on_header t.at (head at g f ps) qs y) w ∙ ap (λ p. goes 1 (want (m.in_body ps at g f qs p [] ∷ []))) (place_is T ts t rest l) ∙ ap (λ k. goes (suc k) (want (m.in_body ps at g f qs (place_at ts) [] ∷ []))) (sym nn))
           (λ t rest l w. absurd (no_brace (sign_of_word t.word) w (sym (sign_is T ts t rest (sign_at ts) l refl)) is)))
           (λ ss k vs h. (refl, h))
       by_sign false is = sim_then T (expect T sign.Semicolon n ts) _ (run T ts (header (head at g f ps) qs)) (λ x. m.program (ps ++ external.Declared (declaration.Function at g f qs) ∷ [])) (λ x k vs. Took T n k) (λ x. m.program (ps ++ x ∷ [])) (λ x k vs. Took T n k)

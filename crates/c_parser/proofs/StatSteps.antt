@@ -157,12 +157,12 @@ module _ (xs : Taken) (t : Lexeme) where
   listed_then (parameters.List []) ps n r = refl
   listed_then (parameters.List (q ∷ qs)) ps n r = comma_pieces parameter (q ∷ qs) ps n r
 
-  defined_text : (at : At) (g : Return) (n : Identifier) (qs : Parameters) (ss : List Statement) (r : List Leaf) → (part (external.Defined at g n qs ss)).leaves 0 r
-      ≡ leaves_at at (returned g) 0 (leaf (a_name n.bytes) (Some n.at) 0 ∷ leaf (a_sign sign.LeftParen) None 0 ∷ leaves_of (listed qs) 0 (leaf (a_sign sign.RightParen) None 0 ∷ leaf (a_sign sign.LeftBrace) None 1 ∷ leaves_of (each item (map about_statement ss)) 1 (leaf (a_sign sign.RightBrace) None 1 ∷ r)))
-  defined_text at g n qs ss r = returned_then at g _ 0 r ∙ ap (λ l. leaves_at at (returned g) 0 (leaf (a_name n.bytes) (Some n.at) 0 ∷ leaf (a_sign sign.LeftParen) None 0 ∷ l)) (listed_then qs _ 0 r ∙ ap (λ l. leaves_of (listed qs) 0 (leaf (a_sign sign.RightParen) None 0 ∷ leaf (a_sign sign.LeftBrace) None 1 ∷ l)) (each_items about_statement ss (the_sign sign.RightBrace ∷ []) 1 r))
+  defined_text : (at : At) (g : Return) (n : Identifier) (qs : Parameters) (brace : At) (ss : List Statement) (r : List Leaf) → (part (external.Defined at g n qs brace ss)).leaves 0 r
+      ≡ leaves_at at (returned g) 0 (leaf (a_name n.bytes) (Some n.at) 0 ∷ leaf (a_sign sign.LeftParen) None 0 ∷ leaves_of (listed qs) 0 (leaf (a_sign sign.RightParen) None 0 ∷ leaf (a_sign sign.LeftBrace) (Some brace) 1 ∷ leaves_of (each item (map about_statement ss)) 1 (leaf (a_sign sign.RightBrace) None 1 ∷ r)))
+  defined_text at g n qs brace ss r = returned_then at g _ 0 r ∙ ap (λ l. leaves_at at (returned g) 0 (leaf (a_name n.bytes) (Some n.at) 0 ∷ leaf (a_sign sign.LeftParen) None 0 ∷ l)) (listed_then qs _ 0 r ∙ ap (λ l. leaves_of (listed qs) 0 (leaf (a_sign sign.RightParen) None 0 ∷ leaf (a_sign sign.LeftBrace) (Some brace) 1 ∷ l)) (each_items about_statement ss (the_sign sign.RightBrace ∷ []) 1 r))
 
-  defined_fit : (at : At) (g : Return) (n : Identifier) (qs : Parameters) (ss : List Statement) → all_fit (listed qs) ≡ true → ok_items ss → (part (external.Defined at g n qs ss)).fits ≡ true
-  defined_fit at g n qs ss h k = heads_fit at g _ (fit_append (listed qs) _ h (and_from _ _ (fit_append (items ss) (the_sign sign.RightBrace ∷ []) k refl) refl))
+  defined_fit : (at : At) (g : Return) (n : Identifier) (qs : Parameters) (brace : At) (ss : List Statement) → all_fit (listed qs) ≡ true → ok_items ss → (part (external.Defined at g n qs brace ss)).fits ≡ true
+  defined_fit at g n qs brace ss h k = heads_fit at g _ (fit_append (listed qs) _ h (and_from _ _ (fit_append (items ss) (the_sign sign.RightBrace ∷ []) k refl) refl))
 
   pub close_reached : (us : List Under) → sign_of_word t.word ≡ sign.RightBrace → Pre xs (text_unders us) → ok_unders us → Stepped xs t (close_block us)
   close_reached [] w p ok = tt
@@ -176,7 +176,7 @@ module _ (xs : Taken) (t : Lexeme) where
     ok.2,
     ap (λ (s : Said). stands 2 s) (told_switch at e ss) ∙ and_from _ _ (and_parts _ _ ok.0).0 (and_from _ _ (fit_append (items ss) (the_sign sign.RightBrace ∷ []) ok.1 refl) refl),
   )
-  close_reached (m.in_body ps at g n qs ss ∷ us) w p ok = (none_at xs t _ (λ r. leaves_of (tops (ps ++ external.Defined at g n qs ss ∷ [])) 0 r) sign.RightBrace _ w refl p (λ r. tops_snoc ps (external.Defined at g n qs ss) r ∙ ap (λ l. leaves_of (tops ps) 0 l) (defined_text at g n qs ss r)), tops_fit ps (external.Defined at g n qs ss) ok.0 (defined_fit at g n qs ss ok.1 ok.2))
+  close_reached (m.in_body ps at g n qs brace ss ∷ us) w p ok = (none_at xs t _ (λ r. leaves_of (tops (ps ++ external.Defined at g n qs brace ss ∷ [])) 0 r) sign.RightBrace _ w refl p (λ r. tops_snoc ps (external.Defined at g n qs brace ss) r ∙ ap (λ l. leaves_of (tops ps) 0 l) (defined_text at g n qs brace ss r)), tops_fit ps (external.Defined at g n qs brace ss) ok.0 (defined_fit at g n qs brace ss ok.1 ok.2))
   close_reached (_ ∷ us) w p ok = tt
 
   -- an item of a block, or a statement
@@ -203,7 +203,7 @@ module _ (xs : Taken) (t : Lexeme) where
   block_more [] x h = h
   block_more (m.in_block at ss ∷ us) x h = refl
   block_more (m.in_switch at e ss ∷ us) x h = refl
-  block_more (m.in_body ps at r n qs ss ∷ us) x h = refl
+  block_more (m.in_body ps at r n qs brace ss ∷ us) x h = refl
   block_more (_ ∷ us) x h = absurd cc
 
   settled_block : (us : List Under) (x : Statement) (s : Sign) → sign_of_word t.word ≡ s → is_block us ≡ true → ok_unders us → Filled xs us (before_word s) x → Stepped xs t (m.on_item t.at t.word s (add x us))
@@ -227,7 +227,7 @@ module _ (xs : Taken) (t : Lexeme) where
       (λ h. tt)
   settled (m.in_block at ss ∷ us) x s w ok f = settled_block (m.in_block at ss ∷ us) x s w refl ok f
   settled (m.in_switch at e ss ∷ us) x s w ok f = settled_block (m.in_switch at e ss ∷ us) x s w refl ok f
-  settled (m.in_body ps at r n qs ss ∷ us) x s w ok f = settled_block (m.in_body ps at r n qs ss ∷ us) x s w refl ok f
+  settled (m.in_body ps at r n qs brace ss ∷ us) x s w ok f = settled_block (m.in_body ps at r n qs brace ss ∷ us) x s w refl ok f
 
   first_reached : (at : At) (us : List Under) (s : Sign) → sign_of_word t.word ≡ s → Reached xs (m.for_first at us) → Stepped xs t (m.on_first t.at t.word s at us)
   first_reached at us s w p = stepped_on xs t s sign.Semicolon _ _ (λ h. test_reached _ at start.Absent us (none_at xs t _ _ sign.Semicolon _ (w ∙ h) refl p.0 (λ r. refl)) refl p.1)
@@ -320,12 +320,12 @@ module _ (xs : Taken) (t : Lexeme) where
   function_text : (k : Heading) (qs : Parameters) (r : List Leaf) → text_home k.home ((declared (declaration.Function k.at k.gives k.name qs)).leaves (home_nesting k.home) r) ≡ text_header k qs (leaf (a_sign sign.Semicolon) None (home_nesting k.home) ∷ r)
   function_text k qs r = ap (λ l. text_home k.home l) (returned_then k.at k.gives _ _ r ∙ ap (λ l. leaves_at k.at (returned k.gives) (home_nesting k.home) (leaf (a_name k.name.bytes) (Some k.name.at) (home_nesting k.home) ∷ leaf (a_sign sign.LeftParen) None (home_nesting k.home) ∷ l)) (listed_then qs _ _ r))
 
-  body_reached : (k : Heading) (qs : Parameters) (h : Home) → k.home ≡ h → sign_of_word t.word ≡ sign.LeftBrace → Reached xs (m.header k qs) → Stepped xs t (m.on_body k qs h)
-  body_reached k qs (m.at_top ps) e w p = (none_at xs t _ (text_unders (m.in_body ps k.at k.gives k.name qs [] ∷ [])) sign.LeftBrace _ w refl p.0 (λ r. sym (ap (λ h. text_home h (leaves_at k.at (returned k.gives) (home_nesting h) (leaf (a_name k.name.bytes) (Some k.name.at) (home_nesting h) ∷ leaf (a_sign sign.LeftParen) None (home_nesting h) ∷ leaves_of (listed qs) (home_nesting h) (leaf (a_sign sign.RightParen) None (home_nesting h) ∷ leaf (a_sign sign.LeftBrace) None 1 ∷ r)))) e)), (subst (λ h. ok_home h) e p.2, p.1, refl))
+  body_reached : (k : Heading) (qs : Parameters) (h : Home) → k.home ≡ h → sign_of_word t.word ≡ sign.LeftBrace → Reached xs (m.header k qs) → Stepped xs t (m.on_body t.at k qs h)
+  body_reached k qs (m.at_top ps) e w p = (some_at xs t _ (text_unders (m.in_body ps k.at k.gives k.name qs t.at [] ∷ [])) sign.LeftBrace _ w refl p.0 (λ r. sym (ap (λ h. text_home h (leaves_at k.at (returned k.gives) (home_nesting h) (leaf (a_name k.name.bytes) (Some k.name.at) (home_nesting h) ∷ leaf (a_sign sign.LeftParen) None (home_nesting h) ∷ leaves_of (listed qs) (home_nesting h) (leaf (a_sign sign.RightParen) None (home_nesting h) ∷ leaf (a_sign sign.LeftBrace) (Some t.at) 1 ∷ r)))) e)), (subst (λ h. ok_home h) e p.2, p.1, refl))
   body_reached k qs (m.at_block us) e w p = tt
   body_reached k qs (m.at_start at us) e w p = tt
 
-  pub header_reached : (k : Heading) (qs : Parameters) (s : Sign) → sign_of_word t.word ≡ s → Reached xs (m.header k qs) → Stepped xs t (m.on_header k qs s)
+  pub header_reached : (k : Heading) (qs : Parameters) (s : Sign) → sign_of_word t.word ≡ s → Reached xs (m.header k qs) → Stepped xs t (m.on_header t.at k qs s)
   header_reached k qs sign.Semicolon w p = conclude_reached _ k.home (declaration.Function k.at k.gives k.name qs) (none_at xs t _ _ sign.Semicolon _ w refl p.0 (function_text k qs)) (heads_fit k.at k.gives _ (fit_append (listed qs) _ p.1 refl)) p.2
   header_reached k qs sign.LeftBrace w p = body_reached k qs k.home refl w p
   header_reached k qs _ w p = tt

@@ -179,7 +179,7 @@ pub add_reached : (xs : Taken) (x : Statement) (us : List Under) → Pre xs (λ 
 add_reached xs x [] p fx ok h = absurd cc
 add_reached xs x (m.in_block at ss ∷ us) p fx ok h = (pre_as xs _ (text_unders (m.in_block at (ss ++ x ∷ []) ∷ us)) (λ r. ap (λ l. text_unders us (leaf (a_sign sign.LeftBrace) (Some at) (suc (suc (inside us))) ∷ l)) (items_snoc ss x _ r)) p, (items_fit ss x ok.0 fx, ok.1))
 add_reached xs x (m.in_switch at e ss ∷ us) p fx ok h = (pre_as xs _ (text_unders (m.in_switch at e (ss ++ x ∷ []) ∷ us)) (λ r. ap (λ l. text_unders us (leaves_at at (the_sign sign.Switch ∷ condition e []) (suc (inside us)) (leaf (a_sign sign.LeftBrace) None (suc (behind (suc (inside us)) (about e))) ∷ l))) (items_snoc ss x _ r)) p, (ok.0, items_fit ss x ok.1 fx, ok.2))
-add_reached xs x (m.in_body ps at g n qs ss ∷ us) p fx ok h = (pre_as xs _ (text_unders (m.in_body ps at g n qs (ss ++ x ∷ []) ∷ us)) (λ r. ap (λ l. leaves_of (tops ps) 0 (leaves_at at (returned g) 0 (leaf (a_name n.bytes) (Some n.at) 0 ∷ leaf (a_sign sign.LeftParen) None 0 ∷ leaves_of (listed qs) 0 (leaf (a_sign sign.RightParen) None 0 ∷ leaf (a_sign sign.LeftBrace) None 1 ∷ l)))) (items_snoc ss x 1 r)) p, (ok.0, ok.1, items_fit ss x ok.2 fx))
+add_reached xs x (m.in_body ps at g n qs brace ss ∷ us) p fx ok h = (pre_as xs _ (text_unders (m.in_body ps at g n qs brace (ss ++ x ∷ []) ∷ us)) (λ r. ap (λ l. leaves_of (tops ps) 0 (leaves_at at (returned g) 0 (leaf (a_name n.bytes) (Some n.at) 0 ∷ leaf (a_sign sign.LeftParen) None 0 ∷ leaves_of (listed qs) 0 (leaf (a_sign sign.RightParen) None 0 ∷ leaf (a_sign sign.LeftBrace) (Some brace) 1 ∷ l)))) (items_snoc ss x 1 r)) p, (ok.0, ok.1, items_fit ss x ok.2 fx))
 add_reached xs x (_ ∷ us) p fx ok h = absurd cc
 
 pub declared_entry : (d : Declaration) (n : ℕ) → entry n (declared d) ≡ n

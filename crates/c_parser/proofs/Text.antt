@@ -38,7 +38,7 @@ begun_under (in_for at b t n) = the_sign sign.For ∷ the_sign sign.LeftParen �
 begun_under (in_switch at e ss) = the_sign sign.Switch ∷ condition e []
 begun_under (in_case at e) = the_sign sign.Case ∷ constant e ∷ the_sign sign.Colon ∷ []
 begun_under (in_default at) = the_sign sign.Default ∷ the_sign sign.Colon ∷ []
-begun_under (in_body ps at r n qs ss) = []
+begun_under (in_body ps at r n qs brace ss) = []
 
 abbrev pub items : List Statement → List Part
 items ss = the_sign sign.LeftBrace ∷ each item (map about_statement ss)
@@ -57,7 +57,7 @@ text_unders (in_for at b t n ∷ us) r = text_unders us (leaves_at at (begun_und
 text_unders (in_switch at e ss ∷ us) r = text_unders us (leaves_at at (begun_under (in_switch at e ss)) (suc (inside us)) (leaves_of (items ss) (suc (behind (suc (inside us)) (about e))) r))
 text_unders (in_case at e ∷ us) r = text_unders us (leaves_at at (begun_under (in_case at e)) (suc (inside us)) r)
 text_unders (in_default at ∷ us) r = text_unders us (leaves_at at (begun_under (in_default at)) (suc (inside us)) r)
-text_unders (in_body ps at g n qs ss ∷ us) r = leaves_of (tops ps) 0 (leaves_at at (returned g) 0 (leaf (a_name n.bytes) (Some n.at) 0 ∷ leaf (a_sign sign.LeftParen) None 0 ∷ leaves_of (listed qs) 0 (leaf (a_sign sign.RightParen) None 0 ∷ leaves_of (items ss) 1 r)))
+text_unders (in_body ps at g n qs brace ss ∷ us) r = leaves_of (tops ps) 0 (leaves_at at (returned g) 0 (leaf (a_name n.bytes) (Some n.at) 0 ∷ leaf (a_sign sign.LeftParen) None 0 ∷ leaves_of (listed qs) 0 (leaf (a_sign sign.RightParen) None 0 ∷ leaves_at brace (items ss) 1 r)))
 
 abbrev pub ok_items : List Statement → Type 0
 ok_items ss = all_fit (each item (map about_statement ss)) ≡ true
@@ -66,7 +66,7 @@ abbrev pub ok_unders : List Under → Type 0
 ok_unders [] = ⊥
 ok_unders (in_block at ss ∷ us) = ok_items ss × ok_unders us
 ok_unders (in_switch at e ss ∷ us) = (all_fit (begun_under (in_switch at e ss)) ≡ true) × ok_items ss × ok_unders us
-ok_unders (in_body ps at g n qs ss ∷ us) = (all_fit (tops ps) ≡ true) × (all_fit (listed qs) ≡ true) × ok_items ss
+ok_unders (in_body ps at g n qs brace ss ∷ us) = (all_fit (tops ps) ≡ true) × (all_fit (listed qs) ≡ true) × ok_items ss
 ok_unders (f ∷ us) = (all_fit (begun_under f) ≡ true) × ok_unders us
 
 -- ---- declarations

@@ -126,7 +126,7 @@ settle_end (m.in_default at ∷ us) x p = settle_end us (tree_.Default at x) p
 settle_end (m.in_do at ∷ us) x p = refl
 settle_end (m.in_block at ss ∷ us) x p = refl
 settle_end (m.in_switch at e ss ∷ us) x p = refl
-settle_end (m.in_body ps at r n qs ss ∷ us) x p = refl
+settle_end (m.in_body ps at r n qs brace ss ∷ us) x p = refl
 
 over_none : (x : Next) → x ≡ None → Over_next x
 over_none None e = tt

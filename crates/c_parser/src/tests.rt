@@ -763,12 +763,20 @@ fn at(line: u32, column: u32) -> At {
     At { line, column }
 }
 
-/// The place of a function's name.
-fn function_name(part: &External) -> Option<At> {
+/// The place of the first declared name.
+fn name(part: &External) -> Option<At> {
     match part {
+        External::Declared(Declaration::Objects(_, _, items)) => object_name(items.as_slice()),
         External::Declared(Declaration::Function(_, _, name, _)) => Some(name.at),
         External::Defined { name, .. } => Some(name.at),
-        _ => None,
+        External::Include(_) => None,
+    }
+}
+
+fn object_name(items: &[Item]) -> Option<At> {
+    match items {
+        [item, ..] => Some(item.name.at),
+        [] => None,
     }
 }
 
@@ -796,38 +804,40 @@ fn first_name(parameters: &[Parameter]) -> Option<At> {
     }
 }
 
-/// The places of the first object's name and of the brace of its initialiser.
-fn name_and_brace(part: &External) -> Option<(At, At)> {
+/// The place of the brace of a function's body, or of the first object's initialiser.
+fn brace(part: &External) -> Option<At> {
     match part {
-        External::Declared(Declaration::Objects(_, _, items)) => first_object(items.as_slice()),
+        External::Declared(Declaration::Objects(_, _, items)) => first_brace(items.as_slice()),
+        External::Defined { brace, .. } => Some(*brace),
         _ => None,
     }
 }
 
-fn first_object(items: &[Item]) -> Option<(At, At)> {
+fn first_brace(items: &[Item]) -> Option<At> {
     match items {
         [
             Item {
-                name,
-                initialiser: Initialiser::List(brace, ..),
+                initialiser: Initialiser::List(at, ..),
                 ..
             },
             ..
-        ] => Some((name.at, *brace)),
+        ] => Some(*at),
         _ => None,
     }
 }
 
 #[test]
-fn names_and_braces_have_their_places(rt: HostRuntime) -> Result<(), Fail> {
+fn names_braces_and_the_end_have_their_places(rt: HostRuntime) -> Result<(), Fail> {
     let source = b"int f(char a){}\nint\n b[1]= {2};\nvoid g();\n";
     let tree = tree_of(rt.alloc(), source)?;
     let parts = tree.parts.as_slice();
     assert_eq!(rt; parts.len(), 3);
-    assert_eq!(rt; function_name(&parts[0]), Some(at(1, 5)));
+    assert_eq!(rt; name(&parts[0]), Some(at(1, 5)));
     assert_eq!(rt; parameter_name(&parts[0]), Some(at(1, 12)));
-    assert_eq!(rt; name_and_brace(&parts[1]), Some((at(3, 2), at(3, 8))));
-    assert_eq!(rt; function_name(&parts[2]), Some(at(4, 6)));
+    assert_eq!(rt; brace(&parts[0]), Some(at(1, 14)));
+    assert_eq!(rt; name(&parts[1]), Some(at(3, 2)));
+    assert_eq!(rt; brace(&parts[1]), Some(at(3, 8)));
+    assert_eq!(rt; name(&parts[2]), Some(at(4, 6)));
     assert_eq!(rt; tree.end, at(5, 1));
     Ok(())
 }

@@ -1,5 +1,5 @@
 -- The bound is enough.
-use Rattle.std.proofs.Common.{◌≡◌, ℕ, suc, ◌+◌, ◌*◌, List, length, subst, Err}
+use Rattle.std.proofs.Common.{ℕ, suc, ◌+◌, ◌*◌, length, subst, Err}
 use Rattle.std.proofs.lemmas.List.{length-map}
 use Rattle.c_tree.specs.declared.syntax.Syntax.{Syntax}
 use Rattle.c_grammar.specs.Words.{lexemes}

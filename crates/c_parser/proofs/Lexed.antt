@@ -1,5 +1,5 @@
 -- The tokens of a text have their end last, and nowhere else.
-use Rattle.std.proofs.Common.{◌≡◌, ℕ, Bool, true, false, cond, ◌&&◌, List, [], ◌∷◌, ◌++◌, map, Option, Some, None, Result, Ok, Err, refl, sym, ap, ◌∙◌}
+use Rattle.std.proofs.Common.{◌≡◌, ℕ, Bool, true, false, cond, List, [], ◌∷◌, Some, refl, ap, ◌∙◌}
 use Rattle.std.specs.List.{All, list_all}
 use Rattle.std.specs.Str.{bytes_eq}
 use Rattle.std.proofs.lemmas.Bool.{and_parts}
@@ -9,12 +9,11 @@ use Rattle.c_tree.specs.declared.token.Token.{Token}
 use Rattle.c_tree.specs.declared.token.TokenKind.{TokenKind}
 use Rattle.c_tree.specs.declared.token.TokenKind.TheVariants as kind
 use Rattle.c_lexer.specs.Places.{place_of}
-use Rattle.c_lexer.specs.Lexing.{start, token_at, tokens_of, AreTokens}
+use Rattle.c_lexer.specs.Lexing.{start, token_at, tokens_of}
 use Rattle.c_lexer.proofs.Ends.{IsNoEnd, no_end}
 use Rattle.c_grammar.specs.declared.sign.Sign.{Sign}
 use Rattle.c_grammar.specs.declared.sign.Sign.TheVariants as sign
-use Rattle.c_grammar.specs.Words.{keywords, marks, sign_by, sign_in, keyword_sign, mark_sign, Word, word_of, a_sign, sign_of_word, Lexeme, lexemes}
-use Rattle.c_grammar.specs.Spelling.{Ended}
+use Rattle.c_grammar.specs.Words.{keywords, marks, sign_in, keyword_sign, mark_sign, word_of, a_sign, sign_of_word, Lexeme, lexemes}
 use Rattle.c_parser.specs.Law.{LexedIsEnded}
 
 -- WORDS

@@ -1,0 +1,5 @@
+mod Order
+mod Ways
+mod Reached
+mod Doing
+pub mod Rows

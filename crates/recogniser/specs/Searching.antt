@@ -1,0 +1,17 @@
+-- The first binding of one row.
+use Rattle.std.specs.Prelude.{ℕ, Bool, List}
+use Rattle.rtl_tree.specs.Moves.{Move}
+use Rattle.md_rows.specs.declared.row.Hole.{Hole}
+use Rattle.md_rows.specs.declared.instance.Bound.{Bound}
+use Rattle.md_match.specs.Searches.{Marks, no_marks}
+use Rattle.md_match.specs.Does.{Does}
+use Rattle.recogniser.specs.Choices.{Choice, Earlier, TakesBy}
+
+-- the binding of the first list of choices by which a row does a transfer
+pub record IsFirstBinding (w g : ℕ) (holes : List Hole) (idle : Move → Bool) (row es : List Move) (b : List Bound) : Type 0 where
+  pub marks : Marks
+  pub choices : List Choice
+  pub does : Does w g holes idle row es b marks
+  pub by : TakesBy row b no_marks es choices marks
+  pub first : (c : List Bound) (ms : Marks) (cs : List Choice) → Does w g holes idle row es c ms → TakesBy row c no_marks es cs ms
+      → Earlier cs choices → ⊥

@@ -3,3 +3,5 @@ mod Ways
 mod Reached
 mod Doing
 pub mod Rows
+mod BitsBelow
+mod Known

@@ -1,4 +1,5 @@
-//! Scratch.
+//! The recogniser: the first instruction of a machine that does a transfer.
 #![tactic(auto)]
 
 mod binding;
+mod flags;

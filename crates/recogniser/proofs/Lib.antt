@@ -2,6 +2,7 @@ mod Order
 mod Ways
 mod Reached
 mod Doing
-pub mod Rows
+pub mod FirstBinding
 mod BitsBelow
 mod Known
+mod SoundRows

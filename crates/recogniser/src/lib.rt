@@ -3,3 +3,4 @@
 
 mod binding;
 mod flags;
+mod rows;

@@ -6,3 +6,5 @@ pub mod FirstBinding
 mod BitsBelow
 mod Known
 mod SoundRows
+mod Descriptions
+mod FirstInstance

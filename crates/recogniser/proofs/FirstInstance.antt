@@ -122,3 +122,11 @@ pub none_at_all : (d : RawDescription) (dead : CellBits) (flags : ℕ) (es : Lis
 none_at_all d dead flags es o e h =
     missing o (HasNone d (is_idle flags 0) es) ((i : Instance) → ¬ DoesTransfer d dead es i) (IsFirstInstance d (is_idle flags 0) es)
     (λ f i. none_is d dead flags es e f i) h
+
+is_instance : (d : RawDescription) (dead : CellBits) (es : List Move) (i : Instance) → IsFirst d dead es i → (row : Row) × IsInstance d i row
+is_instance d dead es i f = (f.does.row, f.does.instance)
+
+pub some_instance : (d : RawDescription) (dead : CellBits) (es : List Move) (o : Option Instance) → IfSome o (IsFirst d dead es)
+    → IfSome o (λ i. (row : Row) × IsInstance d i row)
+some_instance d dead es (Some i) f = is_instance d dead es i f
+some_instance d dead es None f = tt

@@ -14,6 +14,7 @@ mod ranges;
 mod registers;
 
 pub use covering::covers;
+pub use lines::fits_line;
 pub use registers::general_bits;
 
 #[cfg(test)]

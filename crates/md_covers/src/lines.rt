@@ -92,7 +92,7 @@ fn is_within(
 
 /// Whether the longest line of a row has at most 640 bytes: a register hole prints the longest name of its class, a number hole 11
 /// bytes, and a hole for a symbol or a label 64.
-pub(crate) fn fits_line(registers: &[Register], holes: &[Hole], text: &[Piece]) -> bool
+pub fn fits_line(registers: &[Register], holes: &[Hole], text: &[Piece]) -> bool
     ensures { result ≡ nat_le (longest_line registers.now holes.now text.now) 640 }
 {
     if text.is_empty() {

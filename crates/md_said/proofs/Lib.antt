@@ -4,3 +4,4 @@ pub mod Registers
 pub mod Forms
 pub mod Fillings
 pub mod Whole
+pub mod Limits

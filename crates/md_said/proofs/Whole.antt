@@ -102,27 +102,27 @@ row_sound w e g h =
 
 -- the rows that count are all
 
-within_most : {A : Type 0} (n : ℕ) (xs : List A) → ((x : A) → slice_get xs n ≡ Some x → ⊥) → length xs ≤ n
+pub within_most : {A : Type 0} (n : ℕ) (xs : List A) → ((x : A) → slice_get xs n ≡ Some x → ⊥) → length xs ≤ n
 within_most zero [] h = omega arith
 within_most zero (x ∷ xs) h = absurd (h x refl)
 within_most (suc n) [] h = omega arith
 within_most (suc n) (x ∷ xs) h = let k = within_most n xs (λ y e. h y e) in omega arith
 
-take_all : {A : Type 0} (n : ℕ) (xs : List A) → length xs ≤ n → take n xs ≡ xs
+pub take_all : {A : Type 0} (n : ℕ) (xs : List A) → length xs ≤ n → take n xs ≡ xs
 take_all zero [] h = refl
 take_all (suc n) [] h = refl
 take_all zero (x ∷ xs) h = absurd (let k : suc (length xs) ≤ 0 = h in omega arith)
 take_all (suc n) (x ∷ xs) h = ap (λ (ys : List _). x ∷ ys) (take_all n xs (let k : suc (length xs) ≤ suc n = h in omega arith))
 
-contains_at : {A : Type 0} (xs : List A) (i : ℕ) (x : A) → slice_get xs i ≡ Some x → Contains xs x
+pub contains_at : {A : Type 0} (xs : List A) (i : ℕ) (x : A) → slice_get xs i ≡ Some x → Contains xs x
 contains_at xs i x e = (i, slice_get_within xs i x e, get_or_from_slice_get xs i x x e)
 
-mapped_at : {A B : Type 0} (f : A → B) (P : B → Type 0) (xs : List A) → ((i : ℕ) (x : A) → slice_get xs i ≡ Some x → P (f x))
+pub mapped_at : {A B : Type 0} (f : A → B) (P : B → Type 0) (xs : List A) → ((i : ℕ) (x : A) → slice_get xs i ≡ Some x → P (f x))
     → (i : ℕ) (y : B) → slice_get (map f xs) i ≡ Some y → P y
 mapped_at f P xs h i y e =
     each_get P (map f xs) (each_map (λ x. P (f x)) P f (λ x k. k) xs (each_of_get (λ x. P (f x)) xs h)) i y e
 
-false_by : (b : Bool) → (b ≡ true → ⊥) → b ≡ false
+pub false_by : (b : Bool) → (b ≡ true → ⊥) → b ≡ false
 false_by true h = absurd (h refl)
 false_by false h = refl
 

@@ -1,0 +1,3 @@
+pub mod Choices
+pub mod Recognising
+pub mod Searching

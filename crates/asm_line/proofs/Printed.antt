@@ -286,3 +286,19 @@ written d n i r row out it e w = record {
   line = record { row = row; is_instance = subst (IsInstance d i) (same_item r row (sym it.has_row ∙ e)) it; has = w.has };
   spelled = w.spelled;
 }
+
+pub some_row : (d e : RawDescription) (i : Instance) (r : Row) (place : ℕ) → e ≡ d → place ≡ i.row → IsInstance d i r → IsTrue (is_some (slice_get e.rows place))
+some_row d e i r place p q it =
+    subst (λ (o : Option Row). IsTrue (is_some o)) (sym (ap (λ (x : RawDescription). slice_get x.rows place) p ∙ ap (slice_get d.rows) q ∙ it.has_row)) refl
+
+pub ready_at : (d e : RawDescription) (n : Names) (i : Instance) (r row : Row) (place : ℕ) (b : List Bound) → e ≡ d → place ≡ i.row → b ≡ i.binding → IsReadable e
+    → IsInstance d i r → slice_get e.rows place ≡ Some row → All (IsNamed n) i.binding → IsReady e n row b
+ready_at d e n i r row place b p q s readable it has named =
+    subst (λ (xs : List Bound). IsReady e n row xs) (sym s)
+    (ready e n i r row readable (subst (λ (x : RawDescription). IsInstance x i r) (sym p) it) (ap (slice_get e.rows) (sym q) ∙ has) named)
+
+pub written_at : (d e : RawDescription) (n : Names) (i : Instance) (r row : Row) (place : ℕ) (b : List Bound) (out : List ℕ) → e ≡ d → place ≡ i.row → b ≡ i.binding
+    → IsInstance d i r → slice_get e.rows place ≡ Some row → IsRowWritten e n row b out → IsWritten d n i out
+written_at d e n i r row place b out p q s it has w =
+    written d n i r row out it (ap (λ (x : RawDescription). slice_get x.rows i.row) (sym p) ∙ ap (slice_get e.rows) (sym q) ∙ has)
+    (subst (λ (x : RawDescription). IsRowWritten x n row i.binding out) p (subst (λ (xs : List Bound). IsRowWritten e n row xs out) s w))

@@ -130,7 +130,7 @@ module _ (d : RawDescription) (n : Names) (objects : AreCNames n.objects) (funct
       absurd (no_nil (Some (NameToken bytes)) (map (piece_token d.word (naming_of d n) all b) ps) e)
   text_reads k (Name bytes ∷ ps) hs bs (t ∷ ts) s dh db f a e =
       let r = text_reads k ps hs bs ts s dh db f a
-          (same_rest (Some (NameToken bytes)) (Some t) (map (piece_token d.word (naming_of d n) all b) ps) (map (λ u. Some u) ts) e) in
+      (same_rest (Some (NameToken bytes)) (Some t) (map (piece_token d.word (naming_of d n) all b) ps) (map (λ u. Some u) ts) e) in
       record {
         values = r.values;
         reads = (same_item (NameToken bytes) t (same_head (Some (NameToken bytes)) (Some t) (map (piece_token d.word (naming_of d n) all b) ps) (map (λ u. Some u) ts) e), r.reads);
@@ -140,7 +140,7 @@ module _ (d : RawDescription) (n : Names) (objects : AreCNames n.objects) (funct
       absurd (no_nil (Some (NumberToken z)) (map (piece_token d.word (naming_of d n) all b) ps) e)
   text_reads k (Num z ∷ ps) hs bs (t ∷ ts) s dh db f a e =
       let r = text_reads k ps hs bs ts s dh db f a
-          (same_rest (Some (NumberToken z)) (Some t) (map (piece_token d.word (naming_of d n) all b) ps) (map (λ u. Some u) ts) e) in
+      (same_rest (Some (NumberToken z)) (Some t) (map (piece_token d.word (naming_of d n) all b) ps) (map (λ u. Some u) ts) e) in
       record {
         values = r.values;
         reads = (same_item (NumberToken z) t (same_head (Some (NumberToken z)) (Some t) (map (piece_token d.word (naming_of d n) all b) ps) (map (λ u. Some u) ts) e), r.reads);
@@ -150,7 +150,7 @@ module _ (d : RawDescription) (n : Names) (objects : AreCNames n.objects) (funct
       absurd (no_nil (Some (MarkToken c)) (map (piece_token d.word (naming_of d n) all b) ps) e)
   text_reads k (Byte c ∷ ps) hs bs (t ∷ ts) s dh db f a e =
       let r = text_reads k ps hs bs ts s dh db f a
-          (same_rest (Some (MarkToken c)) (Some t) (map (piece_token d.word (naming_of d n) all b) ps) (map (λ u. Some u) ts) e) in
+      (same_rest (Some (MarkToken c)) (Some t) (map (piece_token d.word (naming_of d n) all b) ps) (map (λ u. Some u) ts) e) in
       record {
         values = r.values;
         reads = (same_item (MarkToken c) t (same_head (Some (MarkToken c)) (Some t) (map (piece_token d.word (naming_of d n) all b) ps) (map (λ u. Some u) ts) e), r.reads);

@@ -67,7 +67,7 @@ module _ (d : RawDescription) (readable : IsReadable d) where
     pub line_reads : (i : Instance) (tokens : List Token) → All HasNumber i.binding → IsLineOf d n i tokens → LineReads i tokens
     line_reads i tokens numbers l =
         let t = text_reads d n objects functions (general_set d.registers) l.row.holes i.binding 0 l.row.text l.row.holes i.binding tokens
-            (readable.rows i.row l.row l.is_instance.has_row).in_order refl refl l.is_instance.fit numbers l.has in
+        (readable.rows i.row l.row l.is_instance.has_row).in_order refl refl l.is_instance.fit numbers l.has in
         record { row = l.row; at = record { has = l.is_instance.has_row; values = t.values; reads = t.reads }; are = t.are }
 
     same_values : (i j : ℕ) (r s : Row) (tokens : List Token) (a : RowReads i r tokens) (b : RowReads j s tokens) → r ≡ s → a.values ≡ b.values

@@ -18,13 +18,7 @@ use md_rows::{Bound, Instance, RawDescription, Row};
 use rtl_tree::Names;
 use rtl_word::Word;
 
-fn push_tokens(
-    out: &mut LineBuf,
-    d: &RawDescription,
-    names: &Names,
-    row: &Row,
-    binding: &[Bound],
-)
+fn push_tokens(out: &mut LineBuf, d: &RawDescription, names: &Names, row: &Row, binding: &[Bound])
     requires empty { out.old ≡ [] }
     requires size { IsWordSize d.now.word }
     requires short { longest_line d.now.registers row.now.holes row.now.text ≤ 640 }
@@ -38,13 +32,7 @@ fn push_tokens(
     }
 }
 
-fn print_row(
-    out: &mut LineBuf,
-    d: &RawDescription,
-    names: &Names,
-    row: &Row,
-    binding: &[Bound],
-)
+fn print_row(out: &mut LineBuf, d: &RawDescription, names: &Names, row: &Row, binding: &[Bound])
     requires empty { out.old ≡ [] }
     requires ready { IsReady d.now names.now row.now binding.now }
     ensures { IsRowWritten d.now names.now row.now binding.now out.new }

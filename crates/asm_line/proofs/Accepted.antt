@@ -1,5 +1,5 @@
 -- What an accepted description gives of its rows.
-use Rattle.std.proofs.Common.{◌≡◌, ◌⊎◌, inl, inr, ℕ, zero, suc, ◌+◌, ◌<◌, ◌≤◌, Bool, true, false, ◌||◌, IsTrue, List, [], ◌∷◌, length, map, take, Option, Some, None, slice_get, get_or, Contains, refl, sym, subst, ap, arith, ◌∙◌}
+use Rattle.std.proofs.Common.{◌≡◌, inl, inr, ℕ, zero, suc, ◌<◌, ◌≤◌, Bool, ◌||◌, IsTrue, List, [], ◌∷◌, length, map, take, Some, None, slice_get, Contains, refl, sym, subst, ap, arith}
 use Rattle.std.specs.Prelude.{nat_lt}
 use Rattle.std.proofs.lemmas.Bool.{cases_order, ltb-false, false_from_ne_true, or_left}
 use Rattle.std.proofs.lemmas.Option.{slice_get_within, get_or_from_slice_get}
@@ -11,9 +11,9 @@ use Rattle.md_rows.specs.declared.row.Hole.{Hole as RowHole}
 use Rattle.md_text.specs.Declarations.{Declared, Declares, registers_in}
 use Rattle.md_text.specs.Expansion.{Shown, Fixed, Vacant, holes_in, Expanded, expansions}
 use Rattle.md_text.specs.Rules.{has_deep, is_too_large}
-use Rattle.md_text.specs.Accepted.{IsAccepted, TooLarge, TooMany, most_rows, counted_rows, pieces_from, row_of, description_of, Says}
-use Rattle.md_overlap.specs.Overlap.{Overlap, Meet, FitsPiece}
-use Rattle.md_said.specs.Sound.{IsSound, SaidIsSound}
+use Rattle.md_text.specs.Accepted.{IsAccepted, TooLarge, TooMany, most_rows, pieces_from, row_of, description_of, Says}
+use Rattle.md_overlap.specs.Overlap.{Overlap, Meet}
+use Rattle.md_said.specs.Sound.{IsSound}
 use Rattle.md_said.proofs.Lists.{Each, each_get}
 use Rattle.md_said.proofs.Whole.{said_sound}
 use Rattle.md_check.specs.Accepted.{IsWhole, Overlapping, normalised, normalised_row}

@@ -1,5 +1,5 @@
 -- Each register of a class of an accepted description is declared, so it has a name.
-use Rattle.std.proofs.Common.{◌≡◌, ◌⊎◌, inl, inr, ℕ, zero, suc, ◌^◌, ◌<◌, max, Bool, true, false, cond, ◌==◌, IsTrue, List, [], ◌∷◌, ◌++◌, map, flat_map, fold, bit_or, Option, Some, None, option_map, unwrap_or, is_some, refl, sym, ap, subst, ◌∙◌, arith}
+use Rattle.std.proofs.Common.{◌≡◌, ◌⊎◌, inl, inr, ℕ, ◌^◌, max, Bool, true, false, cond, ◌==◌, IsTrue, List, [], ◌∷◌, ◌++◌, map, flat_map, fold, bit_or, Option, Some, None, option_map, unwrap_or, is_some, refl, sym, ap, subst, ◌∙◌, arith}
 use Rattle.std.specs.Int.{bit_at}
 use Rattle.std.specs.List.{find, cons_option}
 use Rattle.std.specs.Str.{bytes_eq}
@@ -7,13 +7,12 @@ use Rattle.std.proofs.lemmas.Bool.{eqb-true, eq-eqb, cases_eq}
 use Rattle.std.proofs.lemmas.Nat.Bits.{bit_at-zero, bit_at_or, bit_at-pow_other}
 use Rattle.md_rows.specs.declared.description.Register.{Register}
 use Rattle.md_rows.specs.declared.row.Hole.{Hole as RowHole}
-use Rattle.md_rows.specs.declared.row.Hole.TheVariants.{Reg, Num, Sym, Label}
 use Rattle.md_rows.specs.Fits.{is_in}
 use Rattle.md_rows.specs.Instances.{register_name}
 use Rattle.md_text.specs.Pieces.{Kind, Named, Numbers, Symbols, Labels, Slot, Piece, Literal, Hole, slots, has_name}
-use Rattle.md_text.specs.Forms.{OpenTransfer, Form, Version, MachineName, WordBits, MemorySize, DataBegin, StackSize, RegisterLine, FlagLine, ClassLine, ModeLine, RowLine}
-use Rattle.md_text.specs.Declarations.{Declaration, Class, Alternative, registers_in, classes_in, alternatives_in, mode_names, register_bit, register_bits, class_bits}
-use Rattle.md_text.specs.Expansion.{Shown, Fixed, Vacant, taken_by, Filling, shown, filling_of, itself, alternatives_of, fillings, choices, hole_of, holes_in, replaced, Expanded, expanded, expansions_of, expansions}
+use Rattle.md_text.specs.Forms.{Form, Version, MachineName, WordBits, MemorySize, DataBegin, StackSize, RegisterLine, FlagLine, ClassLine, ModeLine, RowLine}
+use Rattle.md_text.specs.Declarations.{Declaration, Class, Alternative, registers_in, classes_in, mode_names, register_bit, register_bits, class_bits}
+use Rattle.md_text.specs.Expansion.{Shown, taken_by, Filling, shown, filling_of, itself, alternatives_of, fillings, choices, hole_of, holes_in, replaced, Expanded, expanded, expansions_of, expansions}
 use Rattle.md_said.proofs.Lists.{Each, each_append, each_map, each_flat_map}
 use Rattle.asm_line.specs.Readable.{HasNames}
 

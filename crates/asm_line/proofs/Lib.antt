@@ -1,6 +1,6 @@
 pub mod Classes
 pub mod Accepted
-pub mod Values
+pub mod HoleValues
 pub mod Texts
 pub mod Unique
 pub mod Printed

@@ -1,16 +1,14 @@
 -- The line that is written: each piece has a token, and the line is no longer than the row's longest.
-use Rattle.std.proofs.Common.{◌≡◌, ◌⊎◌, inl, inr, ℕ, zero, suc, ◌+◌, ◌-◌, ◌^◌, ◌<◌, ◌≤◌, max, ℤ, pos, negsuc, Bool, true, false, cond, ◌==◌, ◌&&◌, IsTrue, List, [], ◌∷◌, ◌++◌, length, map, drop, filter_map, Option, Some, None, option_map, is_some, slice_get, All, refl, sym, ap, subst, ◌∙◌, arith, append_assoc, length-append}
+use Rattle.std.proofs.Common.{◌≡◌, ◌⊎◌, inl, inr, ℕ, zero, suc, ◌+◌, ◌-◌, ◌^◌, ◌<◌, ◌≤◌, max, ℤ, pos, negsuc, Bool, true, false, cond, ◌==◌, IsTrue, List, [], ◌∷◌, ◌++◌, length, map, drop, filter_map, Option, Some, None, option_map, is_some, slice_get, All, refl, sym, ap, subst, ◌∙◌, arith, append_assoc, length-append}
 use Rattle.std.specs.Prelude.{nat_lt, decimal}
 use Rattle.std.specs.Fmt.{signed_decimal}
 use Rattle.std.specs.List.{cons_option}
 use Rattle.std.proofs.lemmas.Bool.{and_parts, ltb-true, eqb-true}
 use Rattle.std.proofs.lemmas.Fmt.{length-decimal-le}
 use Rattle.std.proofs.lemmas.List.Elements.{All-head, All-tail, All-cons, All-nil}
-use Rattle.std.proofs.lemmas.Option.{slice_get-get_or}
 use Rattle.rtl_word.specs.Words.{IsWordSize}
 use Rattle.asm_token.specs.Tokens.{Token, Name as NameToken, Number as NumberToken, Mark as MarkToken, spelling}
 use Rattle.asm_token.specs.Line.{is_word, space_between, after_token, line_of}
-use Rattle.rtl_tree.specs.declared.cells.Cell.{Cell}
 use Rattle.rtl_tree.specs.declared.cells.Cell.TheVariants.{Hard, Temp}
 use Rattle.rtl_tree.specs.declared.cells.Lab.TheVariants.{Block as BlockLabel, Function as FunctionLabel}
 use Rattle.rtl_tree.specs.declared.c_names.Names.{Names}
@@ -25,7 +23,7 @@ use Rattle.md_rows.specs.declared.instance.Bound.{Bound}
 use Rattle.md_rows.specs.declared.instance.Instance.{Instance}
 use Rattle.md_rows.specs.declared.instance.Bound.TheVariants.{Reg, Num as NumBound, Sym, Label}
 use Rattle.md_rows.specs.Fits.{fits, is_in, printed, below_zero, turned, within}
-use Rattle.md_rows.specs.Lines.{longest_name, piece_bytes, is_word as is_word_piece, space_bytes, bytes_after, line_bytes, longest_line}
+use Rattle.md_rows.specs.Lines.{longest_name, piece_bytes, is_word as is_word_piece, space_bytes, bytes_after, longest_line}
 use Rattle.md_rows.specs.Instances.{register_name, hole_token, piece_token, symbol_token, AllFit, general_set, HasTokens, IsInstance}
 use Rattle.asm_line.specs.declared.writing.Before.{Before}
 use Rattle.asm_line.specs.declared.writing.Before.TheVariants.{Start, FirstToken, Word, Mark}
@@ -33,7 +31,7 @@ use Rattle.asm_line.specs.Line.{naming_of, IsNamed, IsWritten}
 use Rattle.asm_line.specs.Readable.{StandInOrder, HasNames, HaveNames, IsReadable}
 use Rattle.asm_line.specs.Shown.{SomeFits, IsReady, IsRowWritten, token_in, tokens_in, gap_bytes, before_next, bytes_left}
 use Rattle.asm_line.specs.Spacing.{separator, next_before, line_from}
-use Rattle.asm_line.proofs.Values.{no_item, same_item}
+use Rattle.asm_line.proofs.HoleValues.{no_item, same_item}
 use Rattle.asm_line.proofs.Texts.{first_left, rest_left}
 
 -- each piece has a token

@@ -1,5 +1,5 @@
 -- The tokens of a line, read along the pieces of a row's text.
-use Rattle.std.proofs.Common.{◌≡◌, ◌≢◌, ℕ, zero, suc, ◌<◌, ◌≤◌, List, [], ◌∷◌, length, map, drop, Option, Some, None, slice_get, All, refl, sym, ap, subst, ◌∙◌, arith}
+use Rattle.std.proofs.Common.{◌≡◌, ℕ, zero, suc, List, [], ◌∷◌, length, map, drop, Option, Some, slice_get, All, refl, sym, ap, subst, ◌∙◌}
 use Rattle.std.proofs.lemmas.List.Elements.{All-head, All-tail}
 use Rattle.asm_token.specs.Tokens.{Token, Name as NameToken, Number as NumberToken, Mark as MarkToken}
 use Rattle.rtl_tree.specs.Names.{AreNames as AreCNames}
@@ -15,8 +15,8 @@ use Rattle.md_overlap.specs.Overlap.{FitsPiece, FitsSome}
 use Rattle.md_overlap.specs.Premises.{AreNames}
 use Rattle.asm_line.specs.Line.{naming_of, HasNumber}
 use Rattle.asm_line.specs.Readable.{StandInOrder}
-use Rattle.asm_line.specs.Reading.{Value, Reads, ReadsText, value_in, AreValues}
-use Rattle.asm_line.proofs.Values.{no_item, same_item, reads_once, reads_fits, ReadsAs, hole_reads, bound_once}
+use Rattle.asm_line.specs.Reading.{Value, Reads, ReadsText, AreValues}
+use Rattle.asm_line.proofs.HoleValues.{same_item, reads_once, reads_fits, ReadsAs, hole_reads, bound_once}
 
 -- what is left of a list
 

@@ -1,5 +1,5 @@
 -- A line is that of one instance at most.
-use Rattle.std.proofs.Common.{◌≡◌, ℕ, zero, suc, List, [], ◌∷◌, length, Option, Some, slice_get, All, refl, sym, ap, subst, ◌∙◌}
+use Rattle.std.proofs.Common.{◌≡◌, ℕ, zero, suc, List, [], ◌∷◌, Some, slice_get, All, refl, sym, ap, subst, ◌∙◌}
 use Rattle.asm_token.specs.Tokens.{Token}
 use Rattle.rtl_tree.specs.Names.{AreNames as AreCNames}
 use Rattle.rtl_tree.specs.declared.c_names.Names.{Names}
@@ -8,7 +8,6 @@ use Rattle.md_rows.specs.declared.description.RawDescription.{RawDescription}
 use Rattle.md_rows.specs.declared.row.Row.{Row}
 use Rattle.md_rows.specs.declared.row.Hole.{Hole}
 use Rattle.md_rows.specs.declared.row.Piece.{Piece}
-use Rattle.md_rows.specs.declared.instance.Bound.{Bound}
 use Rattle.md_rows.specs.declared.instance.Instance.{Instance}
 use Rattle.md_rows.specs.Instances.{general_set}
 use Rattle.md_overlap.specs.Overlap.{Overlap, FitsPiece, Meet}
@@ -16,8 +15,8 @@ use Rattle.md_overlap.specs.Premises.{AreNames}
 use Rattle.asm_line.specs.Line.{IsLineOf, HasNumber}
 use Rattle.asm_line.specs.Readable.{IsReadable}
 use Rattle.asm_line.specs.Reading.{Value, ReadsText, AreValues}
-use Rattle.asm_line.proofs.Values.{no_item, same_item}
-use Rattle.asm_line.proofs.Texts.{text_once, as_many, FitEach, fit_each, TextReads, text_reads, values_once}
+use Rattle.asm_line.proofs.HoleValues.{no_item, same_item}
+use Rattle.asm_line.proofs.Texts.{text_once, as_many, FitEach, fit_each, text_reads, values_once}
 
 -- rows whose texts have the same tokens overlap
 

@@ -1,5 +1,5 @@
 -- The lines of instances.
-use Rattle.std.specs.Prelude.{◌≡◌, ℕ, ◌<◌, ◌^◌, List, length, All}
+use Rattle.std.specs.Prelude.{◌≡◌, ℕ, ◌<◌, ◌^◌, List, length}
 use Rattle.asm_token.specs.Tokens.{Token}
 use Rattle.asm_token.specs.Line.{line_of}
 use Rattle.rtl_tree.specs.declared.cells.Cell.TheVariants.{Temp}

@@ -1,11 +1,7 @@
 -- How the tokens of a line are separated, token by token.
-use Rattle.std.specs.Prelude.{ℕ, ◌+◌, if◌then◌else◌, cond, List, [], ◌∷◌, ◌++◌}
+use Rattle.std.specs.Prelude.{if◌then◌else◌, ℕ, ◌+◌, List, [], ◌∷◌, ◌++◌}
 use Rattle.asm_token.specs.Tokens.{Token, spelling}
 use Rattle.asm_token.specs.Line.{is_word}
-use Rattle.md_rows.specs.declared.description.Register.{Register}
-use Rattle.md_rows.specs.declared.row.Hole.{Hole}
-use Rattle.md_rows.specs.declared.row.Piece.{Piece}
-use Rattle.md_rows.specs.Lines.{piece_bytes, is_word as is_word_piece}
 use Rattle.asm_line.specs.declared.writing.Before.{Before}
 use Rattle.asm_line.specs.declared.writing.Before.TheVariants.{Start, FirstToken, Word, Mark}
 

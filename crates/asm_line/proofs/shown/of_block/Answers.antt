@@ -1,4 +1,3 @@
-use Rattle.std.proofs.Common.{arith}
 use Rattle.asm_line.proofs.Printed.{label_short}
 use Rattle.asm_line.proofs.shown.of_block.Goals as goal
 

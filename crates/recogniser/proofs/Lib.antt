@@ -11,3 +11,4 @@ mod FirstInstance
 mod Forms
 mod Determined
 mod Compared
+mod OneFirst

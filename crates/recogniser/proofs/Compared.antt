@@ -1,13 +1,11 @@
 -- Two lists of choices for one transfer are equal, or one comes before the other.
-use Rattle.std.proofs.Common.{◌≡◌, ◌⊎◌, ℕ, ◌<◌, Bool, true, false, List, [], ◌∷◌, ◌++◌, inl, inr, refl, sym, subst, ap, append_assoc, set, ◌∙◌}
-use Rattle.std.proofs.lemmas.Bool.Decides.{nat_tests}
+use Rattle.std.proofs.Common.{◌≡◌, ◌⊎◌, Bool, true, false, List, ◌∷◌, ◌++◌, inl, inr, refl, sym, subst, ap, append_assoc, ◌∙◌}
 use Rattle.rtl_tree.specs.Trees.{Tree, Number, Symbol, CodeLabel, Read, Load, Unary, Binary, NoPair, AnyNumber, AnyName}
-use Rattle.rtl_tree.specs.Moves.{Move}
 use Rattle.rtl_tree.specs.Likeness.{commutes}
 use Rattle.rtl_tree.specs.declared.expressions.Width.{Width}
 use Rattle.rtl_tree.specs.declared.expressions.UnOp.{UnOp}
 use Rattle.rtl_tree.specs.declared.expressions.BinOp.{BinOp}
-use Rattle.recogniser.specs.Choices.{Choice, Place, Unswapped, Swapped, Earlier, is_leaf, IsAlikeBy}
+use Rattle.recogniser.specs.Choices.{Choice, Unswapped, Swapped, Earlier, is_leaf, IsAlikeBy}
 use Rattle.recogniser.proofs.Forms.{leaf_form, Loaded, loaded, load_form, Under, under, unary_form, Operands, in_order, straight, crossed, binary_form}
 
 abbrev pub AreCompared : List Choice → List Choice → Type 0

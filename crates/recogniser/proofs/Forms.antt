@@ -1,5 +1,5 @@
 -- What is alike a tree by a list of choices, taken apart by the tree.
-use Rattle.std.proofs.Common.{◌≡◌, Bool, true, false, List, [], ◌∷◌, ◌++◌, refl, sym, subst, ap, ◌∙◌}
+use Rattle.std.proofs.Common.{◌≡◌, true, false, List, [], ◌∷◌, ◌++◌, refl, sym, subst, ◌∙◌}
 use Rattle.rtl_tree.specs.Trees.{Tree, Load, Unary, Binary}
 use Rattle.rtl_tree.specs.Likeness.{commutes}
 use Rattle.rtl_tree.specs.declared.expressions.Width.{Width}

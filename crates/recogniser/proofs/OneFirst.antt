@@ -1,13 +1,12 @@
 -- At most one instance is the first that does a transfer.
-use Rattle.std.proofs.Common.{◌≡◌, ◌⊎◌, ℕ, zero, suc, ◌<◌, ◌≤◌, Bool, true, false, nat_lt, ◌||◌, List, [], ◌∷◌, ◌++◌, length, set, slice_get, Option, Some, None, inl, inr, refl, sym, subst, ap, arith, ◌∙◌}
+use Rattle.std.proofs.Common.{◌≡◌, ℕ, zero, suc, ◌<◌, Bool, true, false, nat_lt, ◌||◌, List, [], ◌∷◌, ◌++◌, length, set, slice_get, Some, inl, inr, refl, sym, subst, ap, arith, ◌∙◌}
 use Rattle.std.proofs.lemmas.Bool.Decides.{nat_tests}
 use Rattle.std.proofs.lemmas.Bool.{eqb-true}
 use Rattle.std.proofs.lemmas.Option.{slice_get_within}
-use Rattle.rtl_tree.specs.Trees.{Tree, Number, Symbol, CodeLabel, Read, Load, Unary, Binary, NoPair, AnyNumber, AnyName}
+use Rattle.rtl_tree.specs.Trees.{Tree, Read, Load, Unary, Binary, AnyNumber, AnyName}
 use Rattle.rtl_tree.specs.Moves.{Move}
 use Rattle.rtl_tree.specs.Sets.{CellBits}
 use Rattle.rtl_tree.specs.declared.cells.Cell.TheVariants.{Hole as RegisterHole}
-use Rattle.rtl_tree.specs.declared.expressions.Width.{Width}
 use Rattle.md_rows.specs.declared.description.RawDescription.{RawDescription}
 use Rattle.md_rows.specs.declared.row.Row.{Row}
 use Rattle.md_rows.specs.declared.row.Hole.{Hole}
@@ -16,11 +15,11 @@ use Rattle.md_rows.specs.declared.instance.Bound.TheVariants.{Reg, Num, Sym, Lab
 use Rattle.md_rows.specs.declared.instance.Instance.{Instance}
 use Rattle.md_rows.specs.Instances.{leaf_of, held_by, filled, general_set}
 use Rattle.md_match.specs.Searches.{Marks, no_marks, is_marked, goal_tree}
-use Rattle.md_match.specs.Does.{has_hole, Does, IsHoleOfMarked}
+use Rattle.md_match.specs.Does.{has_hole, Does}
 use Rattle.md_match.proofs.Sound.{same_or_not}
 use Rattle.md_match.proofs.Binding.{or_true, fit_length}
 use Rattle.md_match.proofs.Done.{no_mark}
-use Rattle.recogniser.specs.Choices.{Choice, Place, Earlier, IsAlikeBy, TakesBy, all_taken, taken}
+use Rattle.recogniser.specs.Choices.{Choice, Place, IsAlikeBy, TakesBy, all_taken, taken}
 use Rattle.recogniser.specs.Recognising.{is_dead_flag, DoesTransfer, DoesBy, IsFirst}
 use Rattle.recogniser.proofs.Determined.{determines}
 use Rattle.recogniser.proofs.Compared.{AreCompared, after_one, compares}

@@ -8,13 +8,21 @@ use rtl_tree::{Cell, Lab};
 pub(crate) type Case = (&'static str, u8, u32, &'static [Bound]);
 
 const R1: Bound = Bound::Reg(Cell::Hard(1));
+
 const R2: Bound = Bound::Reg(Cell::Hard(2));
+
 const R3: Bound = Bound::Reg(Cell::Hard(3));
+
 const R4: Bound = Bound::Reg(Cell::Hard(4));
+
 const R8: Bound = Bound::Reg(Cell::Hard(8));
+
 const R9: Bound = Bound::Reg(Cell::Hard(9));
+
 const R10: Bound = Bound::Reg(Cell::Hard(10));
+
 const T1: Bound = Bound::Reg(Cell::Temp(1));
+
 const T2: Bound = Bound::Reg(Cell::Temp(2));
 
 pub(crate) const PDP11_CASES: [Case; 20] = [
@@ -42,12 +50,7 @@ pub(crate) const PDP11_CASES: [Case; 20] = [
     ("r[1] = (r[1] + 2)", 0b111, 47, &[Bound::Num(2), R1]),
     // memory
     ("M[r[1]] = (M[r[1]] + r[2])", 0b111, 47, &[R2, R1]),
-    (
-        "r[1] = M[(r[2] + 4)]",
-        0b111,
-        45,
-        &[Bound::Num(4), R2, R1],
-    ),
+    ("r[1] = M[(r[2] + 4)]", 0b111, 45, &[Bound::Num(4), R2, R1]),
     ("r[1] = M[M[r[2]]]", 0b111, 0, &[]),
     ("r[1] = _x", 0b111, 45, &[Bound::Sym(0), R1]),
     // flags alone
@@ -109,8 +112,7 @@ pub(crate) const READS_AGAIN_CASES: [Case; 2] = [
 ];
 
 /// A row with a hole that stands only in what a flag becomes.
-pub(crate) const HOLDS: &str =
-    "row odd <a:r>,<b:r>,<c:r> | <a> = (<b> ^ <a>); f[0] = (<c> ? 0)\n";
+pub(crate) const HOLDS: &str = "row odd <a:r>,<b:r>,<c:r> | <a> = (<b> ^ <a>); f[0] = (<c> ? 0)\n";
 
 pub(crate) const HOLDS_CASES: [Case; 2] = [
     ("r[1] = (r[2] ^ r[1])", 0b111, 0, &[]),

@@ -74,7 +74,10 @@ fn another_row(rt: HostRuntime) -> Result<(), Fail> {
     let reads = with_row(alloc, READS)?;
     assert_eq!(rt; first_untold(alloc, &reads, &READS_CASES)?, None);
     let reads_again = with_row(alloc, READS_AGAIN)?;
-    assert_eq!(rt; first_untold(alloc, &reads_again, &READS_AGAIN_CASES)?, None);
+    assert_eq!(rt;
+        first_untold(alloc, &reads_again, &READS_AGAIN_CASES)?,
+        None
+    );
     let holds = with_row(alloc, HOLDS)?;
     assert_eq!(rt; first_untold(alloc, &holds, &HOLDS_CASES)?, None);
     let four = with_row(alloc, FOUR)?;

@@ -1,5 +1,5 @@
 -- What is known of an accepted description.
-use Rattle.std.proofs.Common.{◌≡◌, ◌≢◌, ℕ, zero, suc, ◌+◌, ◌<◌, ◌≤◌, List, [], ◌∷◌, map, length, slice_get, Option, Some, None, All, refl, sym, subst, ap, arith, ◌∙◌}
+use Rattle.std.proofs.Common.{◌≡◌, ◌≢◌, ℕ, zero, suc, ◌<◌, ◌≤◌, List, [], ◌∷◌, map, length, slice_get, Some, None, All, refl, sym, subst, ap, arith, ◌∙◌}
 use Rattle.std.specs.Prelude.{AllPairs}
 use Rattle.rtl_word.specs.Words.{IsWordSize}
 use Rattle.md_rows.specs.declared.description.RawDescription.{RawDescription}

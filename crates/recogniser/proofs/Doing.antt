@@ -1,5 +1,5 @@
 -- What the search finds makes the row do the transfer, with the marks that its choices leave.
-use Rattle.std.proofs.Common.{◌≡◌, ◌⊎◌, ℕ, ◌<◌, ◌≤◌, Bool, true, false, ◌&&◌, ◌||◌, List, length, take, slice_get, Option, Some, inl, inr, sym, subst, arith, ◌∙◌}
+use Rattle.std.proofs.Common.{◌≡◌, ℕ, ◌≤◌, true, List, length, take, slice_get, Some, inl, inr, sym, subst, arith, ◌∙◌}
 use Rattle.std.proofs.lemmas.Option.{slice_get_within}
 use Rattle.std.proofs.lemmas.List.{length-take-le}
 use Rattle.rtl_tree.specs.Trees.{Tree}
@@ -9,7 +9,7 @@ use Rattle.md_rows.specs.declared.row.Hole.{Hole}
 use Rattle.md_rows.specs.declared.instance.Bound.{Bound}
 use Rattle.md_rows.specs.Instances.{filled}
 use Rattle.md_match.specs.Slots.{Slots, no_slots, Fit, fit_of}
-use Rattle.md_match.specs.Searches.{Marks, no_marks, goal_tree, fill, Search, is_idle, harmless, in_marked, traps_pass, all_held, occurs_in_move}
+use Rattle.md_match.specs.Searches.{Marks, no_marks, goal_tree, fill, Search, is_idle, harmless, in_marked, traps_pass, all_held}
 use Rattle.md_match.specs.Ways.{Choices as Turns, Ways}
 use Rattle.md_match.specs.Does.{IsPartOfMarked, HasHolesBelow, IsRow, assigned, known, Does}
 use Rattle.md_match.proofs.Filling.{IsFit}

@@ -1,18 +1,18 @@
 -- The search in one row gives the binding of the first list of choices.
-use Rattle.std.proofs.Common.{◌≡◌, ℕ, ◌<◌, ◌≤◌, true, List, map, length, take, Some, None, refl, sym, subst, arith}
+use Rattle.std.proofs.Common.{◌≡◌, ℕ, ◌<◌, true, List, map, length, take, Some, sym, subst, arith}
 use Rattle.rtl_tree.specs.Moves.{Move}
 use Rattle.md_rows.specs.declared.row.Hole.{Hole}
 use Rattle.md_rows.specs.declared.instance.Bound.{Bound}
 use Rattle.md_rows.specs.Instances.{AllFit}
 use Rattle.md_match.specs.Slots.{Slots, no_slots, Fit, fit_of}
 use Rattle.md_match.specs.Searches.{Marks, no_marks, Search, is_idle, match_all}
-use Rattle.md_match.specs.Ways.{Ways, FoundAll}
+use Rattle.md_match.specs.Ways.{FoundAll}
 use Rattle.md_match.specs.Does.{Does, IsRow, known}
 use Rattle.md_match.proofs.Filling.{IsHeld, IsSane}
 use Rattle.md_match.proofs.Whole.{IsPartOf}
 use Rattle.md_match.proofs.Binding.{own_holds, fit_each, fit_length, sane, room, none_held, none_room}
 use Rattle.md_match.proofs.Choices.{match_some}
-use Rattle.md_match.proofs.Done.{Accepted, accepted}
+use Rattle.md_match.proofs.Done.{accepted}
 use Rattle.md_match.proofs.Undone.{reached_accepted}
 use Rattle.recogniser.specs.Choices.{Choice, Earlier, TakesBy}
 use Rattle.recogniser.specs.Searching.{IsFirstBinding}

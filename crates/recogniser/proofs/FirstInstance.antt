@@ -1,12 +1,12 @@
 -- The first row that does a transfer, with its first binding, is the first instance that does it.
-use Rattle.std.proofs.Common.{◌≡◌, ℕ, ◌<◌, ◌≤◌, Bool, List, [], ◌∷◌, map, filter_map, slice_get, Option, Some, None, refl, sym, subst, ap, ◌∙◌}
+use Rattle.std.proofs.Common.{◌≡◌, ℕ, Bool, List, [], ◌∷◌, map, filter_map, slice_get, Option, Some, None, refl, sym, subst, ap, ◌∙◌}
 use Rattle.std.specs.Prelude.{AllPairs, ◌≢◌, IfSome, IfNone, MatchOption}
 use Rattle.std.specs.List.{cons_option}
 use Rattle.rtl_tree.specs.Moves.{Goal, ToCell, ToMemory, Move}
 use Rattle.rtl_tree.specs.Sets.{CellBits}
 use Rattle.rtl_tree.specs.declared.cells.Cell.{Cell}
-use Rattle.rtl_tree.specs.declared.cells.Cell.TheVariants.{Hard, Temp, Flag, Pc, Input, Output, Halt, Hole as RegisterHole}
-use Rattle.rtl_norm.specs.Transfers.{norm_goal, norm_move, norm_moves}
+use Rattle.rtl_tree.specs.declared.cells.Cell.TheVariants.{Flag}
+use Rattle.rtl_norm.specs.Transfers.{norm_goal, norm_moves}
 use Rattle.md_rows.specs.declared.description.RawDescription.{RawDescription}
 use Rattle.md_rows.specs.declared.row.Row.{Row}
 use Rattle.md_rows.specs.declared.instance.Bound.{Bound}
@@ -15,8 +15,8 @@ use Rattle.md_rows.specs.Instances.{assigned_register, filled_goal, filled_move,
 use Rattle.md_match.specs.Searches.{Marks, no_marks, is_flag_of, is_idle}
 use Rattle.md_match.specs.Does.{Does, assigned}
 use Rattle.md_match.proofs.Barred.{idle_to_flags}
-use Rattle.recogniser.specs.Choices.{Choice, Earlier, TakesBy}
-use Rattle.recogniser.specs.Recognising.{is_dead_flag, DoesTransfer, DoesBy, IsFirst}
+use Rattle.recogniser.specs.Choices.{Choice, TakesBy}
+use Rattle.recogniser.specs.Recognising.{is_dead_flag, DoesTransfer, IsFirst}
 use Rattle.recogniser.specs.Searching.{IsSound, IsFirstInstance, HasNone}
 
 -- the normal form keeps the places that are cells, so it assigns the same registers

@@ -8,3 +8,7 @@ mod Known
 mod SoundRows
 mod Descriptions
 mod FirstInstance
+mod Forms
+mod Determined
+mod Compared
+mod OneFirst

@@ -1,6 +1,6 @@
 -- The order of lists of choices is the one in which the search tries its ways.
-use Rattle.std.proofs.Common.{◌≡◌, ◌⊎◌, ℕ, ◌<◌, Bool, true, false, cond, List, [], ◌∷◌, ◌++◌, inl, inr, refl, sym, subst, ap, append_assoc, ◌∙◌}
-use Rattle.rtl_tree.specs.Trees.{Tree, Number, Symbol, CodeLabel, Read, Load, Unary, Binary, NoPair, AnyNumber, AnyName}
+use Rattle.std.proofs.Common.{◌≡◌, ◌⊎◌, ℕ, Bool, true, false, cond, List, [], ◌∷◌, ◌++◌, inl, inr, refl, subst, ap, append_assoc}
+use Rattle.rtl_tree.specs.Trees.{Tree, Load, Unary, Binary}
 use Rattle.rtl_tree.specs.Moves.{Move}
 use Rattle.rtl_tree.specs.Likeness.{commutes}
 use Rattle.md_match.specs.Searches.{goal_tree}

@@ -1,5 +1,5 @@
 -- A row of an accepted description as a search has it, and what the search then finds.
-use Rattle.std.proofs.Common.{◌≡◌, ◌⊎◌, ℕ, ◌+◌, ◌<◌, ◌≤◌, Bool, true, nat_le, List, length, slice_get, Some, inl, inr, refl, sym, subst, ap, arith, ◌∙◌}
+use Rattle.std.proofs.Common.{◌≡◌, ℕ, ◌+◌, ◌<◌, ◌≤◌, Bool, true, nat_le, List, length, slice_get, Some, inl, inr, sym, subst, ap, arith, ◌∙◌}
 use Rattle.std.proofs.lemmas.Bool.Decides.{nat_tests}
 use Rattle.rtl_tree.specs.Moves.{Move}
 use Rattle.md_rows.specs.declared.description.RawDescription.{RawDescription}

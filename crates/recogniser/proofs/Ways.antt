@@ -1,6 +1,6 @@
 -- What the search finds is a row's taking of the transfer by the list of its choices.
-use Rattle.std.proofs.Common.{◌≡◌, ◌⊎◌, ℕ, ◌≤◌, Bool, true, false, cond, List, [], ◌∷◌, ◌++◌, length, set, slice_get, Option, Some, None, inl, inr, refl, sym, subst, ap, ◌∙◌}
-use Rattle.rtl_tree.specs.Trees.{Tree, Number, Symbol, CodeLabel, Read, Load, Unary, Binary, NoPair, AnyNumber, AnyName}
+use Rattle.std.proofs.Common.{◌≡◌, ℕ, Bool, true, false, cond, List, [], ◌∷◌, ◌++◌, length, set, Some, None, refl, sym, subst}
+use Rattle.rtl_tree.specs.Trees.{Tree, Read, Load, Unary, Binary, AnyNumber, AnyName}
 use Rattle.rtl_tree.specs.Moves.{Move}
 use Rattle.rtl_tree.specs.Likeness.{commutes, IsAlike, equal, loads as alike_loads, unaries as alike_unaries, straight as alike_straight, crossed as alike_crossed}
 use Rattle.rtl_tree.specs.declared.cells.Cell.TheVariants.{Hole as RegisterHole}
@@ -8,12 +8,12 @@ use Rattle.rtl_tree.specs.declared.expressions.BinOp.{BinOp}
 use Rattle.md_rows.specs.declared.row.Hole.{Hole}
 use Rattle.md_rows.specs.declared.instance.Bound.{Bound}
 use Rattle.md_rows.specs.Instances.{filled}
-use Rattle.md_match.specs.Slots.{Slots, Fit, put, bound_of}
+use Rattle.md_match.specs.Slots.{Slots, Fit, put}
 use Rattle.md_match.specs.Find.{leaf}
-use Rattle.md_match.specs.Searches.{Marks, Search, is_marked, goal_tree, fill}
+use Rattle.md_match.specs.Searches.{Marks, Search, goal_tree}
 use Rattle.md_match.specs.Ways.{Choice as Turn, Here, Way, at_leaf, at_load, at_unary, straight, crossed, Choices as Turns, Ways, ended, next}
 use Rattle.md_match.specs.Does.{HasHolesBelow, IsRow}
-use Rattle.md_match.proofs.Filling.{Alike, IsFilled, Grows, IsFit, to_alike}
+use Rattle.md_match.proofs.Filling.{Alike, Grows, IsFit, to_alike}
 use Rattle.md_match.proofs.Sound.{grows_on, alike_on, way_sound}
 use Rattle.md_match.proofs.Binding.{Holds, fill_filled}
 use Rattle.md_match.proofs.Done.{ways_grow}

@@ -1,3 +1,4 @@
 pub mod Choices
 pub mod Recognising
 pub mod Searching
+pub mod Laws

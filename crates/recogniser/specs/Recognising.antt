@@ -1,5 +1,5 @@
 -- When an instance does a transfer, and which instance is the first that does it.
-use Rattle.std.specs.Prelude.{◌≡◌, ℕ, ◌<◌, Bool, false, List}
+use Rattle.std.specs.Prelude.{◌≡◌, ◌<◌, Bool, false, List}
 use Rattle.rtl_tree.specs.Moves.{Goal, ToCell, Move}
 use Rattle.rtl_tree.specs.declared.cells.Cell.TheVariants.{Flag}
 use Rattle.rtl_tree.specs.Sets.{CellBits, has_cell}

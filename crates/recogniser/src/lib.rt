@@ -6,11 +6,13 @@
 //!
 //! - `binding`: from what stands in a row's holes to a binding.
 //! - `flags`: the flags of a set of cells.
+//! - `laws`: at most one instance is the first.
 //! - `rows`: the search through the rows.
 #![tactic(auto)]
 
 mod binding;
 mod flags;
+pub mod laws;
 mod recognising;
 mod rows;
 

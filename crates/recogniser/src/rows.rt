@@ -69,11 +69,7 @@ fn first_binding<'a>(q: &Request<'a>, row: &'a Row) -> Option<Binding>
         goal: moves_of(transfer),
     };
     match first_match(&task) {
-        Some(slots) => Some(binding_of(
-            *transfer.list.allocator(),
-            &slots,
-            holes.len(),
-        )),
+        Some(slots) => Some(binding_of(*transfer.list.allocator(), &slots, holes.len())),
         None => None,
     }
 }

@@ -3,6 +3,8 @@
 //! - `telling`: the row that is recognised, and what stands in its holes.
 #![tactic(auto)]
 
+#[cfg(test)]
+mod cases;
 mod telling;
 #[cfg(test)]
 mod tests;

@@ -3,43 +3,20 @@
 ghost use Rattle.std.specs.Prelude.{IfOk};
 ghost use Rattle.rtl_spelling.specs.Spelling.{AreApart};
 
-use crate::{Told, Trouble, told_of};
+use crate::cases::{
+    Case, FOUR, FOUR_CASES, HOLDS, HOLDS_CASES, LONG_CASES, MIPS_CASES, PDP11_CASES, READS,
+    READS_AGAIN, READS_AGAIN_CASES, READS_CASES, TRI_CASES,
+};
+use crate::{Told, Trouble, told_by, told_of};
+use md_examples::edited;
+use md_examples::machines::tri;
 use md_rows::Bound;
-use rtl_tree::{Cell, Lab, Name, NameList, Names, NoMemory, is_name};
+use md_verdict::{Accepted, accept};
+use rtl_tree::{Assign, Cell, Effects, Expr, Name, NameList, Names, NoMemory, Place, is_name};
 use shipped::Shipped::{Mips, Pdp11};
+use smallvec::SmallVec;
 use std::alloc::Global;
 use std::test::Fail;
-
-/// A transfer, the flags that are dead, with a bit for each, the line of the row that is recognised, or 0 where none is, and what
-/// stands in its holes.
-type Case = (&'static str, u8, u32, &'static [Bound]);
-
-const fn hard(number: u8) -> Bound {
-    Bound::Reg(Cell::Hard(number))
-}
-
-const PDP11: [Case; 5] = [
-    (
-        "r[1] = (r[1] + r[2]); f[0] = ((r[1] + r[2]) ? 0)",
-        0b110,
-        47,
-        &[Bound::Reg(Cell::Hard(2)), Bound::Reg(Cell::Hard(1))],
-    ),
-    (
-        "r[1] = (r[1] + r[2]); f[2] = ((r[1] + r[2]) ? 0)",
-        0b011,
-        0,
-        &[],
-    ),
-    (
-        "r[1] = (r[2] + r[1])",
-        0b111,
-        47,
-        &[Bound::Reg(Cell::Hard(2)), Bound::Reg(Cell::Hard(1))],
-    ),
-    ("r[1] = (r[1] + r[2])", 0b011, 0, &[]),
-    ("r[1] = (r[2] + r[3])", 0b111, 0, &[]),
-];
 
 // An object `x`, and no function.
 fn names(alloc: Global) -> Result<Names, NoMemory>
@@ -78,8 +55,88 @@ fn first_untold(
 }
 
 #[test]
-fn the_pdp11(rt: HostRuntime) -> Result<(), Fail> {
+fn machines(rt: HostRuntime) -> Result<(), Fail> {
     let alloc = rt.alloc();
-    assert_eq!(rt; first_untold(alloc, Pdp11.text(), &PDP11)?, None);
+    assert_eq!(rt; first_untold(alloc, Pdp11.text(), &PDP11_CASES)?, None);
+    assert_eq!(rt; first_untold(alloc, Mips.text(), &MIPS_CASES)?, None);
+    assert_eq!(rt; first_untold(alloc, tri(), &TRI_CASES)?, None);
+    Ok(())
+}
+
+// The pdp11 with one more row.
+fn with_row(alloc: Global, row: &str) -> Result<Vec<u8>, NoMemory> {
+    edited(alloc, Pdp11.text(), 71, 0, row.as_bytes())
+}
+
+#[test]
+fn another_row(rt: HostRuntime) -> Result<(), Fail> {
+    let alloc = rt.alloc();
+    let reads = with_row(alloc, READS)?;
+    assert_eq!(rt; first_untold(alloc, &reads, &READS_CASES)?, None);
+    let reads_again = with_row(alloc, READS_AGAIN)?;
+    assert_eq!(rt;
+        first_untold(alloc, &reads_again, &READS_AGAIN_CASES)?,
+        None
+    );
+    let holds = with_row(alloc, HOLDS)?;
+    assert_eq!(rt; first_untold(alloc, &holds, &HOLDS_CASES)?, None);
+    let four = with_row(alloc, FOUR)?;
+    assert_eq!(rt; first_untold(alloc, &four, &FOUR_CASES)?, None);
+    Ok(())
+}
+
+// A line of a machine with the name of a register in it, which has 160 bytes.
+fn named_line(alloc: Global, front: &[u8], back: &[u8]) -> Result<Vec<u8>, NoMemory> {
+    let mut line = Vec::from_slice(alloc, front)?;
+    for _ in 0..160 {
+        line.push(b'n')?;
+    }
+    line.extend_from_slice(back)?;
+    Ok(line)
+}
+
+#[test]
+fn a_long_line(rt: HostRuntime) -> Result<(), Fail> {
+    let alloc = rt.alloc();
+    let four = with_row(alloc, FOUR)?;
+    let register = named_line(alloc, b"reg 1 ", b" general\n")?;
+    let class = named_line(alloc, b"class r r0 ", b" r2 r3 r4 r5 sp\n")?;
+    let named = edited(alloc, &four, 8, 1, &register)?;
+    let long = edited(alloc, &named, 17, 1, &class)?;
+    assert_eq!(rt; first_untold(alloc, &long, &LONG_CASES)?, None);
+    Ok(())
+}
+
+// `add r2,r1`
+#[test]
+fn the_instance_makes_its_own_transfer(rt: HostRuntime) -> Result<(), Fail> {
+    let alloc = rt.alloc();
+    let names = names(alloc)?;
+    let text = b"r[1] = (r[1] + r[2]); f[0] = ((r[1] + r[2]) ? 0)";
+    let told = told_of(alloc, Pdp11.text(), text, &names, 0b110)?;
+    assert!(rt; matches!(&told, Some(told) if told.effects.list.len() == 4));
+    Ok(())
+}
+
+// The first register to the first, twice, which is no transfer that a text can spell.
+fn twice(alloc: Global) -> Result<Effects, NoMemory> {
+    let mut list = SmallVec::new(alloc);
+    for _ in 0..2 {
+        list.push(Assign {
+            to: Place::Cell(Cell::Hard(1)),
+            value: Expr::Cell(Cell::Hard(1)),
+        })?;
+    }
+    Ok(Effects { list })
+}
+
+#[test]
+fn no_two_registers_become_one(rt: HostRuntime) -> Result<(), Fail> {
+    let alloc = rt.alloc();
+    let transfer = twice(alloc)?;
+    match accept(alloc, tri())? {
+        Accepted::Word32(m) => assert!(rt; told_by(alloc, &m, &transfer, 0)?.is_none()),
+        Accepted::Word16(_) => return Err(Fail::new("words of 16 bits")),
+    }
     Ok(())
 }

@@ -1,4 +1,4 @@
-use Rattle.std.proofs.Common.{◌≡◌, ◌+◌, take, sym, subst}
+use Rattle.std.proofs.Common.{◌+◌, take, sym, subst}
 use Rattle.smallvec.specs.SmallVec.{SmallVec}
 use Rattle.md_rows.specs.declared.instance.Bound.{Bound}
 use Rattle.recogniser.proofs.Known.{HasKnown, one_known, none_known}

@@ -1,4 +1,4 @@
-use Rattle.std.proofs.Common.{rules, ◌≡◌, ℕ, ◌<◌, ◌^◌, subst, arith, Fits, w8}
+use Rattle.std.proofs.Common.{rules, ◌≡◌, ℕ, subst, arith, Fits, w8}
 use Rattle.recogniser.specs.Searching.{HasBitsBelow}
 use Rattle.recogniser.proofs.BitsBelow.{one_more_bit, all_bits}
 use Rattle.recogniser.proofs.flags.flags_of.Goals as goal

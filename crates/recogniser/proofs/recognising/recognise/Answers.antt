@@ -1,4 +1,4 @@
-use Rattle.std.proofs.Common.{◌≡◌, ap, sym, subst, ◌∙◌, List}
+use Rattle.std.proofs.Common.{ap, subst, ◌∙◌, List}
 use Rattle.std.specs.Prelude.{IfNone, IfSome}
 use Rattle.rtl_tree.specs.Sets.{bits_of}
 use Rattle.md_rows.specs.declared.description.RawDescription.{RawDescription}

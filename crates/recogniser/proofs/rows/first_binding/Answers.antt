@@ -1,7 +1,6 @@
-use Rattle.std.proofs.Common.{◌≡◌, refl, sym, ◌∙◌}
+use Rattle.std.proofs.Common.{refl, sym, ◌∙◌}
 use Rattle.md_rows.specs.Lines.{longest_line}
 use Rattle.md_match.specs.Does.{IsRow}
-use Rattle.md_match.specs.Tasks.{search_of}
 use Rattle.recogniser.specs.Searching.{idle_of}
 use Rattle.recogniser.proofs.FirstBinding.{row_first}
 use Rattle.recogniser.proofs.SoundRows.{sound_row, short_by, found_by}

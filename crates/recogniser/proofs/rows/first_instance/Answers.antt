@@ -1,4 +1,3 @@
-use Rattle.std.proofs.Common.{◌≡◌, ℕ, slice_get, Some}
 use Rattle.md_check.proofs.Rows.{item_at, within}
 use Rattle.recogniser.specs.Searching.{IsDoneByNone, idle_of}
 use Rattle.recogniser.proofs.SoundRows.{one_more_row}

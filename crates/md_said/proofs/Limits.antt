@@ -1,19 +1,21 @@
 -- The numbers of registers, and how many rows and holes there are.
-use Rattle.std.proofs.Common.{◌≡◌, ◌≢◌, ◌⊎◌, ℕ, suc, ◌<◌, ◌≤◌, ℤ, pos, negsuc, Bool, true, false, not, nat_lt, ◌||◌, ◌==◌, IsTrue, List, [], ◌∷◌, ◌++◌, length, map, Option, Some, None, Contains, inl, inr, refl, sym, subst, ap, arith, ◌∙◌, eq-eqb}
+use Rattle.std.proofs.Common.{◌≡◌, ◌≢◌, ◌⊎◌, ℕ, zero, suc, ◌<◌, ◌≤◌, ℤ, pos, negsuc, Bool, true, false, not, cond, nat_lt, ◌||◌, ◌==◌, IsTrue, List, [], ◌∷◌, ◌++◌, length, map, take, filter_map, Option, Some, None, slice_get, All, Contains, inl, inr, refl, sym, subst, ap, arith, ◌∙◌, eq-eqb}
 use Rattle.std.specs.Prelude.{AllPairs}
 use Rattle.std.specs.List.{list_any, cons_option}
 use Rattle.std.specs.Str.{bytes_eq}
 use Rattle.std.proofs.lemmas.Bool.Decides.{nat_tests}
 use Rattle.std.proofs.lemmas.List.Kept.{AllPairs-cons}
+use Rattle.md_rows.specs.declared.description.RawDescription.{RawDescription}
 use Rattle.md_rows.specs.declared.description.Register.{Register}
-use Rattle.md_text.specs.Forms.{Form, RegisterLine}
+use Rattle.md_rows.specs.declared.row.Row.{Row}
+use Rattle.md_text.specs.Forms.{Form, Version, MachineName, WordBits, MemorySize, DataBegin, StackSize, RegisterLine, FlagLine, ClassLine, ModeLine, RowLine}
 use Rattle.md_text.specs.Declarations.{Declaration, Declared, Declares, register_of, registers_in, number_of}
 use Rattle.md_text.specs.Expansion.{Expanded, holes_in, expansions}
 use Rattle.md_text.specs.Heading.{is_from_to, is_out_of_range}
 use Rattle.md_text.specs.Rules.{is_declared_twice, is_too_large, has_deep}
-use Rattle.md_text.specs.Accepted.{OutOfRange, DeclaredTwice, TooLarge, TooMany, HasBrokenRow, IsAccepted, most_rows, counted_rows, row_of, description_of}
+use Rattle.md_text.specs.Accepted.{OutOfRange, DeclaredTwice, TooLarge, TooMany, HasBrokenRow, IsAccepted, most_rows, counted_rows, row_of, description_of, Says}
 use Rattle.md_said.specs.Limits.{IsLimited, SaidIsLimited}
-use Rattle.md_said.proofs.Lists.{Each, all_of_each}
+use Rattle.md_said.proofs.Lists.{Each, each_get, all_of_each}
 use Rattle.md_said.proofs.Unbroken.{Unbroken, unbroken_from}
 use Rattle.md_said.proofs.Whole.{within_most, take_all, contains_at, mapped_at, false_by}
 

@@ -1,6 +1,5 @@
 //! What is recognised over the text of a machine.
 
-ghost use Rattle.std.specs.Prelude.{◌≤◌, ◌-◌, ◌^◌, length};
 ghost use Rattle.rtl_spelling.specs.Spelling.{AreApart};
 
 use md_check::Checked;
@@ -95,7 +94,7 @@ fn told_in<W: Word>(
     Ok(told_by::<W>(alloc, m, &transfer, dead)?)
 }
 
-/// What is recognised of the transfer that a text spells, over the text of a machine.
+/// What is recognised of the transfer that a text spells, over the text of a machine, which has at most 1,048,576 bytes.
 pub fn told_of(
     alloc: Global,
     machine: &[u8],
@@ -103,9 +102,11 @@ pub fn told_of(
     names: &Names,
     dead: u8,
 ) -> Result<Option<Told>, Trouble>
-    requires machine { length machine.now ≤ 2 ^ 32 - 2 }
-    requires names { AreApart names.now.objects names.now.functions }
+    requires { AreApart names.now.objects names.now.functions }
 {
+    if machine.len() > 1_048_576 {
+        return Err(Trouble::Machine);
+    }
     match accept(alloc, machine)? {
         Accepted::Word16(m) => told_in(alloc, &m, transfer, names, dead),
         Accepted::Word32(m) => told_in(alloc, &m, transfer, names, dead),

@@ -149,7 +149,9 @@ fn twice(alloc: Global) -> Result<Effects, NoMemory> {
 fn no_two_registers_become_one(rt: HostRuntime) -> Result<(), Fail> {
     let alloc = rt.alloc();
     let transfer = twice(alloc)?;
-    match accept(alloc, tri())? {
+    let machine = tri();
+    assert!(rt; machine.len() < 10_000);
+    match accept(alloc, machine)? {
         Accepted::Word32(m) => assert!(rt; told_by(alloc, &m, &transfer, 0)?.is_none()),
         Accepted::Word16(_) => return Err(Fail::new("words of 16 bits")),
     }

@@ -1,6 +1,6 @@
 //! The names that trees mention by number.
 
-ghost use Rattle.std.specs.Prelude.{[], All, Contains, IsTrue, MatchOption, Ok, Some, if◌then◌else◌, is_ok, length, slice_get, ◌++◌, ◌<◌, ◌≤◌, ◌∷◌, ◌↔◌, ◌≡◌};
+ghost use Rattle.std.specs.Prelude.{[], All, Contains, IsTrue, MatchOption, Ok, Some, if◌then◌else◌, is_ok, length, slice_get, take, ◌++◌, ◌<◌, ◌≤◌, ◌∷◌, ◌↔◌, ◌≡◌};
 ghost use Rattle.rtl_tree.specs.Names.{AreNames, IsName, IsNameByte};
 
 use crate::memory::NoMemory;
@@ -120,6 +120,13 @@ impl NameList {
         let _ = name.bytes();
         self.list.push(name)?;
         Ok(())
+    }
+
+    /// Keeps the first names, at most `len` of them.
+    pub fn truncate(&mut self, len: usize)
+        ensures { self.new ≡ take len self.old }
+    {
+        self.list.truncate(len);
     }
 }
 

@@ -25,8 +25,9 @@ use Rattle.rtl_norm.proofs.Settled.{norm_norm}
 use Rattle.rtl_effect.specs.Views.{Stop, Mark, View, Seen, bind, width_of, touched, unary_on, binary_on, seen}
 use Rattle.rtl_effect.specs.Effects.{assigned_by, assigned, Storing, storing_by, storing, is_input, takes, needed, mark_of_two, marked, place_at, target, chosen, aimed, jump, Fine, done, tested_cell, place_of, tested_by, tested, Patch, patch_of, byte_of, patched, plain, plain_mark, cell_after, mark_after, event, went, input_after, next_in, cells_after, Done, view_after, effect}
 use Rattle.rtl_norm_value.specs.Kept.{IsWordView}
-use Rattle.rtl_norm_value.specs.Effect.{IsSameView, IsSameDone, IsSameEffect, both_stop, both_do, AreLabelsPlaces, IsNormalJump, HasNormalJump, jump_in_form, with_normal_jump, EffectIsKept, NormalJumpIsKept, JumpIsPlace, NormalFormHasNormalJump}
+use Rattle.rtl_norm_value.specs.Effect.{IsSameView, IsSameEffect, both_stop, both_do, AreLabelsPlaces, IsNormalJump, HasNormalJump, jump_in_form, with_normal_jump, EffectIsKept, NormalJumpIsKept, JumpIsPlace, NormalFormHasNormalJump}
 use Rattle.rtl_norm_value.proofs.Seen.{seen_is_kept, word_is_kept, seen_kept, word_kept, norm_pair}
+use Rattle.rtl_norm_value.proofs.Alike.{same_effect_swap, same_effect_trans}
 use Rattle.rtl_norm_value.proofs.Sorted.{IsFlagValue, IsJumpTree, IsSorted, IsSortedMove, AreSorted, sorted_moves}
 
 -- what the laws need of a view
@@ -571,60 +572,6 @@ normal_jump_is_kept w ms v z k h f l =
     let s = sorted_moves w ms (recursion_from_All _ ms h.placed) (recursion_from_All _ ms f) (recursion_from_All _ ms l) in
     let P : List Move → Type 0 = λ ns. IsSameEffect (effect w ns v) (effect w (with_normal_jump w ms) v) in
     subst P (moves_again w ms) (sorted_effect w v g (with_normal_jump w ms) (sorted_forms w v g ms s) (forms_normal w v ms))
-
--- equal effects, one after the other
-pub same_view_swap : (v z : View) → IsSameView v z → IsSameView z v
-same_view_swap v z e = record {
-  cells = λ c. sym (e.cells c);
-  flags = λ n. sym (e.flags n);
-  size = sym e.size;
-  bytes = λ a. sym (e.bytes a);
-  reach = λ a. sym (e.reach a);
-  symbols = λ n. sym (e.symbols n);
-  labels = λ l. sym (e.labels l);
-  targets = λ l. sym (e.targets l);
-  places = λ n. sym (e.places n);
-  input = sym e.input;
-}
-
-pub same_view_trans : (v y z : View) → IsSameView v y → IsSameView y z → IsSameView v z
-same_view_trans v y z e f = record {
-  cells = λ c. e.cells c ∙ f.cells c;
-  flags = λ n. e.flags n ∙ f.flags n;
-  size = e.size ∙ f.size;
-  bytes = λ a. e.bytes a ∙ f.bytes a;
-  reach = λ a. e.reach a ∙ f.reach a;
-  symbols = λ n. e.symbols n ∙ f.symbols n;
-  labels = λ l. e.labels l ∙ f.labels l;
-  targets = λ l. e.targets l ∙ f.targets l;
-  places = λ n. e.places n ∙ f.places n;
-  input = e.input ∙ f.input;
-}
-
-pub same_done_swap : (x y : Done) → IsSameDone x y → IsSameDone y x
-same_done_swap x y e = record { view = same_view_swap x.view y.view e.view; place = sym e.place; output = sym e.output; halt = sym e.halt }
-
-pub same_done_trans : (x y z : Done) → IsSameDone x y → IsSameDone y z → IsSameDone x z
-same_done_trans x y z e f = record { view = same_view_trans x.view y.view z.view e.view f.view; place = e.place ∙ f.place; output = e.output ∙ f.output; halt = e.halt ∙ f.halt }
-
-pub same_effect_swap : (x y : Result Done Stop) → IsSameEffect x y → IsSameEffect y x
-same_effect_swap x y (both_stop s) = both_stop s
-same_effect_swap x y (both_do d e h) = both_do e d (same_done_swap d e h)
-
-after_stop : (s : Stop) (x y : Result Done Stop) → IsSameEffect x y → x ≡ Err s → IsSameEffect (Err s) y
-after_stop s x y (both_stop q) e = subst (λ r. IsSameEffect r (Err q)) e (both_stop q)
-after_stop s x y (both_do d k h) e = subst (λ r. IsSameEffect r (Ok k)) e (both_do d k h)
-
-after_done : (c d : Done) (x y : Result Done Stop) → IsSameDone c d → IsSameEffect x y → x ≡ Ok d → IsSameEffect (Ok c) y
-after_done c d x y h (both_stop s) e = absurd (grind (arith, e))
-after_done c d x y h (both_do a b k) e = both_do c b (same_done_trans c a b (subst (IsSameDone c) (sym (same_ok a d e)) h) k)
-  where
-    same_ok : (a b : Done) → (let l : Result Done Stop = Ok a in l ≡ Ok b) → a ≡ b
-    same_ok a b e = grind (arith, e)
-
-pub same_effect_trans : (x y z : Result Done Stop) → IsSameEffect x y → IsSameEffect y z → IsSameEffect x z
-same_effect_trans x y z (both_stop s) k = after_stop s (Err s) z k refl
-same_effect_trans x y z (both_do c d h) k = after_done c d (Ok d) z h k refl
 
 pub jump_is_place : JumpIsPlace
 jump_is_place w ms v z k p h f l =

@@ -7,6 +7,7 @@
 
 ghost use Rattle.rtl_norm_value.specs.Effect.{EffectIsKept, JumpIsPlace, NormalFormHasNormalJump, NormalJumpIsKept};
 ghost use Rattle.rtl_norm_value.specs.Kept.{SeenIsKept, ValueIsKept};
+ghost use Rattle.rtl_norm_value.specs.Moved.{NormalFormMovesJump, WildAsItStands};
 
 /// In every view, whatever is unset there, the normal form of a tree is seen as the tree is: the same word, nothing where that
 /// is unset, or the same trap.
@@ -36,4 +37,10 @@ pub fn normal_jump_does_the_same()
     ensures everywhere { NormalJumpIsKept }
     ensures placed { JumpIsPlace }
     ensures idempotent { NormalFormHasNormalJump }
+{}
+
+/// A counterexample: without the premise on jumps the law on effects would be false, in code with temporaries and elsewhere.
+pub fn normal_form_moves_a_jump()
+    ensures wild { WildAsItStands }
+    ensures elsewhere { NormalFormMovesJump }
 {}

@@ -12,7 +12,7 @@
 //! - `rtl_norm`: the normal form of a tree and of a transfer, as a definition, with the laws that it ends and is its own normal form.
 #![tactic(auto)]
 
-pub use rtl_effect::{effect_grows, seen_grows, seen_is_value};
+pub use rtl_effect::{effect_grows, effect_is_calm, seen_grows, seen_is_value};
 pub use rtl_norm::{
     node_is_settled, normal_form_fits, normal_form_is_normal, normal_transfer_is_normal,
 };

@@ -1,8 +1,10 @@
-use crate::token::{Token, push_token, token_at};
+//! The longest token of an assembly line, and the bytes of tokens.
+
+use asm_token::token::{Token, push_token, token_at};
 use std::test::Fail;
 
 #[test]
-fn longest_tokens(rt: HostRuntime) {
+fn tokens_of_lines(rt: HostRuntime) -> Result<(), Fail> {
     let table = [
         (b"mov #1,r1".as_slice(), Some((Token::Name(b"mov"), 3))),
         (b"_x$1.y+".as_slice(), Some((Token::Name(b"_x$1.y"), 6))),
@@ -27,10 +29,6 @@ fn longest_tokens(rt: HostRuntime) {
     for (text, expected) in table {
         assert_eq!(rt; token_at(text), expected);
     }
-}
-
-#[test]
-fn spellings(rt: HostRuntime) -> Result<(), Fail> {
     let mut line = Vec::new(rt.alloc());
     push_token(&mut line, Token::Name(b"add"))?;
     push_token(&mut line, Token::Mark(b'#'))?;

@@ -1,4 +1,6 @@
-use crate::Shipped;
+//! The descriptions that come with the program.
+
+use shipped::Shipped;
 use std::test::Fail;
 
 #[test]
@@ -9,12 +11,7 @@ fn each_name_has_its_text(rt: HostRuntime) -> Result<(), Fail> {
     let mips = Shipped::named("mips").ok_or("mips isn't known")?;
     assert_eq!(rt; mips.text().len(), 2615);
     assert!(rt; mips.text().ends_with(b"row sys exit | HALT = r[2]\n"));
-    Ok(())
-}
-
-#[test]
-fn no_other_name_is_known(rt: HostRuntime) {
     for word in ["", "mip", "mips ", "Mips", "pdp-11"] {
         assert_eq!(rt; Shipped::named(word), None);
-    }
+    }    Ok(())
 }

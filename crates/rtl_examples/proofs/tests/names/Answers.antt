@@ -1,5 +1,5 @@
 use Rattle.std.proofs.Common.{◌≡◌, ℕ, ◌<◌, get_or, sym, ap, ◌∙◌, arith}
-use Rattle.rtl_text.proofs.tests.names.Goals as goal
+use Rattle.rtl_examples.proofs.tests.names.Goals as goal
 
 -- two numbers that differ are not one
 apart : (m n : ℕ) → m < n → n ≡ m → ⊥

@@ -1,4 +1,9 @@
-use super::*;
+//! Objects in memory, and whole files.
+
+use vp_io::{
+    Failed, FetchFault, Files, MemFile, MemFiles, MemSink, MemSource, Outcome, Reason, SafeFiles, SafeSink,
+    SafeSource, Sink, Source, Which, fetch_whole, write_whole,
+};
 use std::alloc::{AllocError, Global};
 use std::test::Fail;
 
@@ -29,7 +34,7 @@ fn codes_of_outcomes(rt: HostRuntime) {
 }
 
 #[test]
-fn source_gives_pieces(rt: HostRuntime) -> Result<(), Fail> {
+fn sources_give_pieces(rt: HostRuntime) -> Result<(), Fail> {
     let bytes = b"abcde".to_vec(rt.alloc())?;
     let failing = [1].to_vec(rt.alloc())?;
     let mut source = MemSource::new(bytes, 3, failing);
@@ -40,11 +45,6 @@ fn source_gives_pieces(rt: HostRuntime) -> Result<(), Fail> {
     assert_eq!(rt; source.read(&mut into), Ok(2));
     assert_eq!(rt; into.as_slice(), b"dec\0".as_slice());
     assert_eq!(rt; source.read(&mut into), Ok(0));
-    Ok(())
-}
-
-#[test]
-fn safe_source_fills_what_it_is_given(rt: HostRuntime) -> Result<(), Fail> {
     let mut source = SafeSource::new(b"abc".to_vec(rt.alloc())?);
     let mut into = [0; 2];
     assert_eq!(rt; source.read(&mut into), Ok(2));
@@ -56,7 +56,7 @@ fn safe_source_fills_what_it_is_given(rt: HostRuntime) -> Result<(), Fail> {
 }
 
 #[test]
-fn sink_takes_pieces(rt: HostRuntime) -> Result<(), Fail> {
+fn sinks_take_pieces(rt: HostRuntime) -> Result<(), Fail> {
     let rows: [(usize, &[u64], &[u8], Result<(), Failed>, &[u8]); 5] = [
         (1, &[], b"abcde", Ok(()), b"abcde"),
         (3, &[], b"abcde", Ok(()), b"abcde"),
@@ -70,13 +70,9 @@ fn sink_takes_pieces(rt: HostRuntime) -> Result<(), Fail> {
         assert_eq!(rt; write_whole(&mut sink, text), result);
         assert_eq!(rt; sink.bytes(), written);
     }
-    Ok(())
-}
-
-#[test]
-fn safe_sink_takes_all(rt: HostRuntime) {
     assert_eq!(rt; write_whole(&mut SafeSink, b"abc"), Ok(()));
     assert_eq!(rt; SafeSink.write(b"abc"), Ok(3));
+    Ok(())
 }
 
 fn entry(alloc: Global, name: &[u8], bytes: &[u8], absent: bool) -> Result<MemFile, AllocError> {
@@ -128,7 +124,7 @@ fn fetches_whole_files(rt: HostRuntime) -> Result<(), Fail> {
 }
 
 #[test]
-fn calls_of_lacking_names_are_not_numbered(rt: HostRuntime) -> Result<(), Fail> {
+fn files_give_pieces(rt: HostRuntime) -> Result<(), Fail> {
     let failing = [1].to_vec(rt.alloc())?;
     let mut files = MemFiles::new(entries(rt.alloc())?, 2, failing);
     let mut into = [0; 4];
@@ -138,11 +134,6 @@ fn calls_of_lacking_names_are_not_numbered(rt: HostRuntime) -> Result<(), Fail> 
     assert_eq!(rt; files.fetch("s.c", 6, &mut into), Err(Failed));
     assert_eq!(rt; files.fetch("s.c", 6, &mut into), Ok(1));
     assert_eq!(rt; files.fetch("s.c", 7, &mut into), Ok(0));
-    Ok(())
-}
-
-#[test]
-fn safe_files_never_fail(rt: HostRuntime) -> Result<(), Fail> {
     let mut files = SafeFiles::new(entries(rt.alloc())?);
     let got = fetch_whole(rt.alloc(), &mut files, "s.c", 7);
     assert!(rt; is_fetched(&got, Ok(b"int x;\n")));

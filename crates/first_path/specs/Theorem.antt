@@ -24,8 +24,8 @@ pub record IsCompiledTo (description source written : List ℕ) : Type 0 where
   pub instructions : List Instance
   pub text : IsText machine written instructions
   pub same :
-    (input : List ℕ) → AreBytes input → NeverFails (source_run program input)
-    → Same (source_run program input) (machine_run machine instructions input)
+      (input : List ℕ) → AreBytes input → NeverFails (source_run program input)
+      → Same (source_run program input) (machine_run machine instructions input)
   pub bytes : written ≡ compiled_text machine program
 
 abbrev pub DescribedHasWordSize : Type 0

@@ -6,3 +6,4 @@ pub mod Sorted
 pub mod Alike
 pub mod Same
 mod Moved
+pub mod WordViews

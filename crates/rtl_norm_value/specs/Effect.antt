@@ -1,5 +1,5 @@
 -- When two transfers do the same, and what the normal form of a transfer keeps.
-use Rattle.std.specs.Prelude.{◌≡◌, ℕ, ◌⊎◌, Result, Ok, Err, List, map}
+use Rattle.std.specs.Prelude.{◌≡◌, ℕ, ◌<◌, ◌⊎◌, Result, Ok, Err, List, map}
 use Rattle.std.specs.List.{All}
 use Rattle.rtl_word.specs.Words.{IsWordSize}
 use Rattle.rtl_tree.specs.declared.cells.Cell.{Cell}
@@ -97,3 +97,9 @@ JumpIsPlace =
 -- the jump of a normal form is in its normal form
 abbrev pub NormalFormHasNormalJump : Type 0
 NormalFormHasNormalJump = (w : ℕ) (ms : List Move) → with_normal_jump w (norm_moves w ms) ≡ norm_moves w ms
+
+-- a transfer of words leaves a view of words, where the input is bytes
+abbrev pub WordsAreKept : Type 0
+WordsAreKept =
+    (w : ℕ) (ms : List Move) (v : View) (d : Done) → IsWordSize w → IsWordView w v → All (λ byte. byte < 256) v.input → All (IsMoveFitting w) ms
+    → effect w ms v ≡ Ok d → IsWordView w d.view × All (λ byte. byte < 256) d.view.input

@@ -5,7 +5,7 @@
 //! stand only under tests. Their numbers are below 2 to the word's bits, and so is what is set in the view or the state.
 #![tactic(auto)]
 
-ghost use Rattle.rtl_norm_value.specs.Effect.{EffectIsKept, JumpIsPlace, NormalFormHasNormalJump, NormalJumpIsKept};
+ghost use Rattle.rtl_norm_value.specs.Effect.{EffectIsKept, JumpIsPlace, NormalFormHasNormalJump, NormalJumpIsKept, WordsAreKept};
 ghost use Rattle.rtl_norm_value.specs.Kept.{SeenIsKept, ValueIsKept};
 ghost use Rattle.rtl_norm_value.specs.Moved.{NormalFormMovesJump, WildAsItStands};
 
@@ -37,6 +37,11 @@ pub fn normal_jump_does_the_same()
     ensures everywhere { NormalJumpIsKept }
     ensures placed { JumpIsPlace }
     ensures idempotent { NormalFormHasNormalJump }
+{}
+
+/// A transfer of words on a view of words leaves a view of words, where the input is bytes.
+pub fn effect_keeps_words()
+    ensures { WordsAreKept }
 {}
 
 /// A counterexample: without the premise on jumps the law on effects would be false, in code with temporaries and elsewhere.

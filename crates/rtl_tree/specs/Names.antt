@@ -1,6 +1,5 @@
 -- Names of C: letters, digits and underscores, no digit first (C11 6.4.2.1).
-use Rattle.std.specs.Prelude.{ℕ, ◌<◌, ◌≤◌, ◌≡◌, ◌≢◌, ◌⊎◌, List, ◌∷◌, length, All, AllPairs}
-use Rattle.std.specs.Prelude.{Vec, map}
+use Rattle.std.specs.Prelude.{ℕ, ◌<◌, ◌≤◌, ◌≡◌, ◌≢◌, ◌⊎◌, List, ◌∷◌, Vec, length, map, All, AllPairs}
 use Rattle.std.proofs.Common.{Global}
 use Rattle.std.specs.Char.{IsAsciiDigit}
 

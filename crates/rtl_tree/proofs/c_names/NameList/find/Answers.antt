@@ -1,5 +1,5 @@
 use Rattle.std.proofs.Common.{None, Some, ◌∙◌, sym}
-use Rattle.rtl_tree.proofs.NameLists.{finds_name}
+use Rattle.rtl_tree.proofs.FoundNames.{finds_name}
 use Rattle.rtl_tree.proofs.c_names.NameList.find.Goals as goal
 
 pub returns-in-Some : goal.returns-in-Some

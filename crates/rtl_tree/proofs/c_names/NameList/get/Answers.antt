@@ -1,5 +1,5 @@
 use Rattle.std.proofs.Common.{sym}
-use Rattle.rtl_tree.proofs.NameLists.{name_among}
+use Rattle.rtl_tree.proofs.FoundNames.{name_among}
 use Rattle.rtl_tree.proofs.c_names.NameList.get.Goals as goal
 
 pub returns-in-Some-clause-name : goal.returns-in-Some-clause-name

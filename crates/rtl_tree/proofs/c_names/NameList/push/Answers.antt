@@ -1,7 +1,8 @@
 use Rattle.std.proofs.Common.{◌≡◌, ◌++◌, ◌∷◌, [], ap, ◌∙◌}
 use Rattle.std.specs.Prelude.{Contains}
 use Rattle.rtl_tree.specs.Names.{names_of}
-use Rattle.rtl_tree.proofs.NameLists.{AreNames-push, puts_last}
+use Rattle.rtl_tree.proofs.FoundNames.{puts_last}
+use Rattle.rtl_tree.proofs.NameLists.{AreNames-push}
 use Rattle.rtl_tree.proofs.c_names.NameList.push.Goals as goal
 
 pub invariant_of-self-2 : goal.invariant_of-self-2

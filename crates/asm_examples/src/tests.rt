@@ -1,4 +1,4 @@
-//! What is recognised, as worked out by hand.
+//! What is recognised and printed, as worked out by hand.
 
 ghost use Rattle.std.specs.Prelude.{IfOk};
 ghost use Rattle.rtl_spelling.specs.Spelling.{AreApart};
@@ -31,9 +31,13 @@ fn names(alloc: Global) -> Result<Names, NoMemory>
     Ok(Names { objects, functions })
 }
 
-fn is_told(told: &Option<Told>, line: u32, bounds: &[Bound]) -> bool {
+fn is_told(told: &Option<Told>, line: u32, bounds: &[Bound], printed: &[u8]) -> bool {
     match told {
-        Some(told) => told.line == line && told.binding.list.as_slice() == bounds,
+        Some(told) => {
+            told.line == line
+                && told.binding.list.as_slice() == bounds
+                && told.printed.as_slice() == printed
+        }
         None => line == 0,
     }
 }
@@ -47,9 +51,9 @@ fn first_untold(
 ) -> Result<Option<&'static str>, Trouble>
     requires { AreApart names.now.objects names.now.functions }
 {
-    for (transfer, dead, line, bounds) in cases {
+    for (transfer, dead, line, bounds, printed) in cases {
         let told = told_of(alloc, machine, transfer.as_bytes(), names, *dead)?;
-        if !is_told(&told, *line, *bounds) {
+        if !is_told(&told, *line, *bounds, printed.as_bytes()) {
             return Ok(Some(*transfer));
         }
     }
@@ -149,10 +153,11 @@ fn twice(alloc: Global) -> Result<Effects, NoMemory> {
 fn no_two_registers_become_one(rt: HostRuntime) -> Result<(), Fail> {
     let alloc = rt.alloc();
     let transfer = twice(alloc)?;
+    let names = names(alloc)?;
     let machine = tri();
     assert!(rt; machine.len() < 10_000);
     match accept(alloc, machine)? {
-        Accepted::Word32(m) => assert!(rt; told_by(alloc, &m, &transfer, 0)?.is_none()),
+        Accepted::Word32(m) => assert!(rt; told_by(alloc, &m, &transfer, &names, 0)?.is_none()),
         Accepted::Word16(_) => return Err(Fail::new("words of 16 bits")),
     }
     Ok(())

@@ -8,8 +8,10 @@ use crate::machines::{duo, tri};
 use crate::porting::{Advice, DUO_ADVICE, TRI_ADVICE};
 use crate::tri_edits::TRI_EDITS;
 use crate::{Edit, Mend, Verdict, edited, verdict_of};
-use md_verdict::accept;
+use md_check::{Layout, operators};
+use md_verdict::{Accepted, accept};
 use rtl_tree::NoMemory;
+use rtl_word::{W16, W32};
 use shipped::Shipped;
 use shipped::Shipped::{Mips, Pdp11};
 use std::alloc::Global;
@@ -52,6 +54,41 @@ fn machines_are_accepted(rt: HostRuntime) -> Result<(), Fail> {
     assert!(rt; is_accepted(alloc, Pdp11.text(), b"accepted pdp11 word 16 rows 206\n")?);
     assert!(rt; is_accepted(alloc, Mips.text(), b"accepted mips word 32 rows 72\n")?);
     Ok(())
+}
+
+// The layout of an accepted machine, and which of the operators that a machine may have it has.
+fn offered(alloc: Global, text: &[u8]) -> Option<(Layout, u16)> {
+    if text.len() > 10_000 {
+        return None;
+    }
+    match accept(alloc, text) {
+        Ok(Accepted::Word16(m)) => Some((m.layout(), operators::<W16>(&m).covered)),
+        Ok(Accepted::Word32(m)) => Some((m.layout(), operators::<W32>(&m).covered)),
+        Err(_) => None,
+    }
+}
+
+// The pdp11 has only the extension of a byte, and the mips all but that.
+#[test]
+fn what_machines_offer(rt: HostRuntime) {
+    let pdp11 = Layout {
+        memory: 57344,
+        base: 1024,
+        stack: 16384,
+    };
+    let mips = Layout {
+        memory: 4_194_304,
+        base: 4096,
+        stack: 1_048_576,
+    };
+    assert_eq!(rt;
+        offered(rt.alloc(), Pdp11.text()),
+        Some((pdp11, 0b10_0000_0000))
+    );
+    assert_eq!(rt;
+        offered(rt.alloc(), Mips.text()),
+        Some((mips, 0b01_1111_1111))
+    );
 }
 
 #[test]

@@ -211,5 +211,11 @@ pub(crate) const FOUR_CASES: [Case; 1] = [(
 /// The same row where the name of a register has 160 bytes: its longest line has more than 640.
 pub(crate) const LONG_CASES: [Case; 2] = [
     ("r[1] = ((r[2] - r[3]) & r[4])", 0, 0, &[], ""),
-    ("r[1] = (r[1] + r[2])", 0b111, 47, &[R2, R1], "add r2,r1"),
+    (
+        "r[1] = (r[1] + r[2])",
+        0b111,
+        47,
+        &[R2, R1],
+        "add r2,nnnnnnnnnnnnnnnnnnnnnnnnnnnnnnnnnnnnnnnnnnnnnnnnnnnnnnnnnnnnnnnnnnnnnnnnnnnnnnnnnnnnnnnnnnnnnnnnnnnnnnnnnnnnnnnnnnnnnnnnnnnnnnnnnnnnnnnnnnnnnnnnnnnnnnnnnnnnnnnn",
+    ),
 ];

@@ -12,4 +12,4 @@ mod telling;
 mod tests;
 
 pub use naming::{are_named, is_named};
-pub use telling::{Told, Trouble, told_by, told_of};
+pub use telling::{Told, Trouble, told_by, told_in, told_of};

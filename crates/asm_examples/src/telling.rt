@@ -104,7 +104,8 @@ pub fn told_by<W: Word>(
     }))
 }
 
-fn told_in<W: Word>(
+/// What is recognised of the transfer that a text spells, over an accepted machine.
+pub fn told_in<W: Word>(
     alloc: Global,
     m: &Checked<W>,
     transfer: &[u8],

@@ -46,5 +46,3 @@ pub fn at_most_one_description()
     ensures { AtMostOneDescription }
 {}
 
-#[cfg(test)]
-mod tests;

@@ -17,5 +17,3 @@ pub use covering::covers;
 pub use lines::fits_line;
 pub use registers::general_bits;
 
-#[cfg(test)]
-mod tests;

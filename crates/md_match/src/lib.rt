@@ -22,5 +22,3 @@ pub use slots::{
     put,
 };
 
-#[cfg(test)]
-mod tests;

@@ -15,5 +15,3 @@ pub use patterns::{Pattern, pattern_of};
 pub use search::Subject;
 pub use table::{SHAPES, Shape, ShapeTable, shapes};
 
-#[cfg(test)]
-mod tests;

@@ -1,4 +1,4 @@
-//! What is recognised, as worked out by hand.
+//! What is recognised and printed, as worked out by hand.
 
 ghost use Rattle.std.specs.Prelude.{IfOk};
 ghost use Rattle.rtl_spelling.specs.Spelling.{AreApart};
@@ -7,12 +7,15 @@ use crate::cases::{
     Case, FOUR, FOUR_CASES, HOLDS, HOLDS_CASES, LONG_CASES, MIPS_CASES, PDP11_CASES, READS,
     READS_AGAIN, READS_AGAIN_CASES, READS_CASES, TRI_CASES,
 };
-use crate::{Told, Trouble, told_by, told_of};
+use crate::{Told, Trouble, told_by, told_in, told_of};
+use asm_line::LineBuf;
+use md_check::Checked;
 use md_examples::edited;
 use md_examples::machines::tri;
 use md_rows::Bound;
 use md_verdict::{Accepted, accept};
 use rtl_tree::{Assign, Cell, Effects, Expr, Name, NameList, Names, NoMemory, Place, is_name};
+use rtl_word::Word;
 use shipped::Shipped::{Mips, Pdp11};
 use smallvec::SmallVec;
 use std::alloc::Global;
@@ -31,14 +34,36 @@ fn names(alloc: Global) -> Result<Names, NoMemory>
     Ok(Names { objects, functions })
 }
 
-fn is_told(told: &Option<Told>, line: u32, bounds: &[Bound]) -> bool {
+fn is_told(told: &Option<Told>, line: u32, bounds: &[Bound], printed: &[u8]) -> bool {
     match told {
-        Some(told) => told.line == line && told.binding.list.as_slice() == bounds,
+        Some(told) => {
+            told.line == line
+                && told.binding.list.as_slice() == bounds
+                && told.printed.as_slice() == printed
+        }
         None => line == 0,
     }
 }
 
 // The first of these transfers for which something else is told.
+fn first_untold_by<W: Word>(
+    alloc: Global,
+    names: &Names,
+    m: &Checked<W>,
+    cases: &[Case],
+) -> Result<Option<&'static str>, Trouble>
+    requires { AreApart names.now.objects names.now.functions }
+{
+    for (transfer, dead, line, bounds, printed) in cases {
+        let told = told_in::<W>(alloc, m, transfer.as_bytes(), names, *dead)?;
+        if !is_told(&told, *line, *bounds, printed.as_bytes()) {
+            return Ok(Some(*transfer));
+        }
+    }
+    Ok(None)
+}
+
+// The same over the text of a machine, which has at most 10,000 bytes.
 fn first_untold(
     alloc: Global,
     names: &Names,
@@ -47,13 +72,13 @@ fn first_untold(
 ) -> Result<Option<&'static str>, Trouble>
     requires { AreApart names.now.objects names.now.functions }
 {
-    for (transfer, dead, line, bounds) in cases {
-        let told = told_of(alloc, machine, transfer.as_bytes(), names, *dead)?;
-        if !is_told(&told, *line, *bounds) {
-            return Ok(Some(*transfer));
-        }
+    if machine.len() > 10_000 {
+        return Err(Trouble::Machine);
     }
-    Ok(None)
+    match accept(alloc, machine)? {
+        Accepted::Word16(m) => first_untold_by(alloc, names, &m, cases),
+        Accepted::Word32(m) => first_untold_by(alloc, names, &m, cases),
+    }
 }
 
 #[test]
@@ -149,10 +174,12 @@ fn twice(alloc: Global) -> Result<Effects, NoMemory> {
 fn no_two_registers_become_one(rt: HostRuntime) -> Result<(), Fail> {
     let alloc = rt.alloc();
     let transfer = twice(alloc)?;
+    let names = names(alloc)?;
     let machine = tri();
     assert!(rt; machine.len() < 10_000);
+    assert!(rt; LineBuf::new().bytes().is_empty());
     match accept(alloc, machine)? {
-        Accepted::Word32(m) => assert!(rt; told_by(alloc, &m, &transfer, 0)?.is_none()),
+        Accepted::Word32(m) => assert!(rt; told_by(alloc, &m, &transfer, &names, 0)?.is_none()),
         Accepted::Word16(_) => return Err(Fail::new("words of 16 bits")),
     }
     Ok(())

@@ -1,4 +1,6 @@
-use crate::{fill_row, filled};
+//! The transfer of a row whose holes are filled.
+
+use md_instances::{fill_row, filled};
 use md_rows::{Binding, Bound, Hole, Row};
 use rtl_tree::{Assign, BinOp, Cell, Effects, Expr, Lab, NoMemory, Place, UnOp, Width, same};
 use smallvec::SmallVec;

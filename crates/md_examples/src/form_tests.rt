@@ -1,7 +1,7 @@
 //! What lines say by the format of descriptions, on words of 16 bits.
 
-use crate::{FormFault, read_form};
 use md_forms::{Form, Kind, OpenTransfer, OpenTree, Piece, Range, Said};
+use md_parser::{FormFault, read_form};
 use md_rows::Role;
 use rtl_tree::{BinOp, Cell, Expr, Place, Width};
 use rtl_word::Rel;
@@ -49,6 +49,7 @@ fn the_heading(rt: HostRuntime) {
     );
     assert!(rt; matches!(said(alloc, b"data 0"), Some(Form::DataBegin(0))));
     assert!(rt; matches!(said(alloc, b"stack -1"), Some(Form::StackSize(-1))));
+    assert!(rt; matches!(read_form(alloc, 16, b""), Err(FormFault::NoForm)));
 }
 
 fn is_link_31(form: Option<Form>) -> bool {
@@ -144,12 +145,6 @@ fn is_index_mode(form: Option<Form>) -> bool {
         }
         _ => false,
     }
-}
-
-#[test]
-fn a_mode(rt: HostRuntime) {
-    let line = b"mode index | -2 (<x:r>) <n:!-8..7> | M[(<n> + <x>)]";
-    assert!(rt; is_index_mode(said(rt.alloc(), line)));
 }
 
 // Whether a text is `add <s:a>,<d:r>`.
@@ -278,47 +273,12 @@ fn is_branch_row(form: Option<Form>) -> bool {
 }
 
 #[test]
-fn rows(rt: HostRuntime) {
+fn modes_and_rows(rt: HostRuntime) {
     let alloc = rt.alloc();
+    let index = b"mode index | -2 (<x:r>) <n:!-8..7> | M[(<n> + <x>)]";
+    assert!(rt; is_index_mode(said(alloc, index)));
     let add = b"row add <s:a>,<d:r> | <d> = (<d> + <s>); f[3] = lost";
     assert!(rt; is_add_row(said(alloc, add)));
     let branch = b"row _b<k:word> <t:label>+<v:sym> | PC = ((<v> eq -1) -> <t>)";
     assert!(rt; is_branch_row(said(alloc, branch)));
-}
-
-fn is_refused(alloc: Global, line: &[u8]) -> bool {
-    line.len() <= 255 && matches!(read_form(alloc, 16, line), Err(FormFault::NoForm))
-}
-
-#[test]
-fn lines_without_a_form(rt: HostRuntime) {
-    let table = [
-        b"".as_slice(),
-        b"vpo 1 ",
-        b"name 9x",
-        b"word 016",
-        b"memory  4096",
-        b"data -0",
-        b"stack +1024",
-        b"reg 0 r0",
-        b"reg 0 r0 saved",
-        b"flag 0 Z result",
-        b"class r",
-        b"class r r0 ",
-        b" flag 0 Z",
-        b"mode m | #<n:word>",
-        b"mode m | a:b | 0",
-        b"mode m | <n:1..> | <n>",
-        b"mode m | a | _x",
-        b"mode m | a | L1",
-        b"row | r[0] = 0",
-        b"row a | r[0] = <n:word>",
-        b"row a | r[0] = 32768",
-        b"row a | r[0] = 0; ",
-        b"row a | f[8] = lost",
-        b"Row a | r[0] = 0",
-    ];
-    for line in table {
-        assert!(rt; is_refused(rt.alloc(), line));
-    }
 }

@@ -13,5 +13,6 @@ fn each_name_has_its_text(rt: HostRuntime) -> Result<(), Fail> {
     assert!(rt; mips.text().ends_with(b"row sys exit | HALT = r[2]\n"));
     for word in ["", "mip", "mips ", "Mips", "pdp-11"] {
         assert_eq!(rt; Shipped::named(word), None);
-    }    Ok(())
+    }
+    Ok(())
 }

@@ -1,11 +1,11 @@
 //! Objects in memory, and whole files.
 
-use vp_io::{
-    Failed, FetchFault, Files, MemFile, MemFiles, MemSink, MemSource, Outcome, Reason, SafeFiles, SafeSink,
-    SafeSource, Sink, Source, Which, fetch_whole, write_whole,
-};
 use std::alloc::{AllocError, Global};
 use std::test::Fail;
+use vp_io::{
+    Failed, FetchFault, Files, MemFile, MemFiles, MemSink, MemSource, Outcome, Reason, SafeFiles,
+    SafeSink, SafeSource, Sink, Source, Which, fetch_whole, write_whole,
+};
 
 #[test]
 fn codes_of_outcomes(rt: HostRuntime) {

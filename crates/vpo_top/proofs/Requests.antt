@@ -5,7 +5,8 @@ use Rattle.std.proofs.lemmas.Slice.Eq.{bytes_eq-Decides}
 use Rattle.shipped.specs.declared.Shipped.{Shipped}
 use Rattle.shipped.specs.declared.Shipped.TheVariants.{Pdp11, Mips}
 use Rattle.shipped.specs.Shipped.{name_of}
-use Rattle.vpo_top.specs.Request.{Asked, is_file_word, check_of, show_of, compilation, request_of}
+use Rattle.vp_io.specs.declared.answers.Which.TheVariants.{Description}
+use Rattle.vpo_top.specs.Request.{Asked, is_file_word, is_compilation_form, check_of, show_of, compilation, compilation_of, request_of, NamesNoFile}
 use Rattle.vpo_top.specs.Request.Asked.{Check, Show, Cc}
 
 -- the name of no machine that comes with the program
@@ -19,8 +20,23 @@ not_shown name other =
     by_names false d true e = absurd (other Mips (e.0 refl))
     by_names false d false e = refl
 
+-- words of these forms name a file
+pub check_names : (desc : List ℕ) → is_file_word desc ≡ true → ¬ NamesNoFile (check_of desc)
+check_names desc is = by_form (is_file_word desc) is
+  where
+    by_form : (b : Bool) → b ≡ true → ¬ NamesNoFile (cond b (Some (Check desc)) None)
+    by_form true is unnamed = let named : Some desc ≡ None = unnamed Description in cc named
+    by_form false is unnamed = cc is
+
+pub compilation_names : (command desc src : List ℕ) → is_compilation_form command desc src ≡ true → ¬ NamesNoFile (compilation_of command desc src)
+compilation_names command desc src is = by_form (is_compilation_form command desc src) is
+  where
+    by_form : (b : Bool) → b ≡ true → ¬ NamesNoFile (cond b (compilation desc src) None)
+    by_form true is unnamed = let named : Some desc ≡ None = unnamed Description in cc named
+    by_form false is unnamed = cc is
+
 -- where a compilation is asked for, it has no options
-abbrev HasNoOptions : Option Asked → Type 0
+abbrev pub HasNoOptions : Option Asked → Type 0
 HasNoOptions (Some (Check desc)) = ⊤
 HasNoOptions (Some (Show which)) = ⊤
 HasNoOptions (Some (Cc dump plain desc src)) = (dump ≡ false) × (plain ≡ false)
@@ -30,7 +46,7 @@ in_cond : (b : Bool) (first other : Option Asked) → HasNoOptions first → Has
 in_cond true first other is is_other = is
 in_cond false first other is is_other = is_other
 
-no_options : (words : List (List ℕ)) → HasNoOptions (request_of words)
+pub no_options : (words : List (List ℕ)) → HasNoOptions (request_of words)
 no_options [] = tt
 no_options (command ∷ []) = tt
 no_options (command ∷ word ∷ []) =
@@ -41,7 +57,7 @@ no_options (command ∷ word ∷ []) =
             (in_cond (bytes_eq word (name_of Mips)) (Some (Show 1)) None tt tt))
         tt)
 no_options (command ∷ desc ∷ src ∷ []) =
-    in_cond (bytes_eq command (codes "cc") && (is_file_word desc && is_file_word src)) (compilation desc src) None (refl, refl) tt
+    in_cond (is_compilation_form command desc src) (compilation desc src) None (refl, refl) tt
 no_options (command ∷ desc ∷ src ∷ more ∷ rest) = tt
 
 pub is_compilation : (words : List (List ℕ)) (dump plain : Bool) (desc src : List ℕ)

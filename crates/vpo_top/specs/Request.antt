@@ -44,9 +44,11 @@ abbrev pub compilation : List ℕ → List ℕ → Option Asked
 compilation desc src = Some (Cc false false desc src)
 
 -- cc DESC SRC
+abbrev pub is_compilation_form : List ℕ → List ℕ → List ℕ → Bool
+is_compilation_form command desc src = bytes_eq command (codes "cc") && (is_file_word desc && is_file_word src)
+
 abbrev pub compilation_of : List ℕ → List ℕ → List ℕ → Option Asked
-compilation_of command desc src =
-    cond (bytes_eq command (codes "cc") && (is_file_word desc && is_file_word src)) (compilation desc src) None
+compilation_of command desc src = cond (is_compilation_form command desc src) (compilation desc src) None
 
 -- what the words ask for; other words are no plain form
 abbrev pub request_of : List (List ℕ) → Option Asked

@@ -1,10 +1,10 @@
 //! What the words of the command line ask for.
 
-ghost use Rattle.vpo_top.specs.Request.{request_of, compilation_of, show_of, check_of, bytes_of_words, is_file_word, IsReadAs};
+ghost use Rattle.vpo_top.specs.Request.{request_of, compilation_of, is_compilation_form, show_of, check_of, bytes_of_words, is_file_word, IsReadAs};
 ghost use Rattle.std.specs.Prelude.{◌≡◌, [], ◌∷◌};
 
 use shipped::Shipped;
-use std::alloc::{AllocError, Global};
+use std::alloc::Global;
 use thiserror::Error;
 
 /// What is asked for. Each name of a file isn't empty and doesn't begin with `-`.
@@ -34,16 +34,6 @@ pub enum WordsFault {
     BadWords,
 }
 
-impl From<AllocError> for WordsFault {
-    ghost use Rattle.vpo_top.specs.declared.request.WordsFault.TheVariants.{NoMemory};
-
-    ghost from_gives = { λ _ fault. fault ≡ NoMemory };
-
-    fn from(_: AllocError) -> WordsFault {
-        WordsFault::NoMemory
-    }
-}
-
 /// A word that may name a file isn't empty, and no option.
 fn names_file(word: &str) -> bool
     ensures { result ≡ is_file_word word.now }
@@ -60,7 +50,9 @@ fn read_check(alloc: Global, desc: &str) -> Result<Request, WordsFault>
     if !names_file(desc) {
         return Err(WordsFault::BadWords);
     }
-    let desc = desc.to_string(alloc)?;
+    let Ok(desc) = desc.to_string(alloc) else {
+        return Err(WordsFault::NoMemory);
+    };
     Ok(Request::Check { desc })
 }
 
@@ -74,6 +66,12 @@ fn read_show(name: &str) -> Result<Request, WordsFault>
     }
 }
 
+fn asks_for_compilation(command: &str, desc: &str, src: &str) -> bool
+    ensures { result ≡ is_compilation_form command.now desc.now src.now }
+{
+    command == "cc" && names_file(desc) && names_file(src)
+}
+
 fn read_compilation(
     alloc: Global,
     command: &str,
@@ -82,11 +80,15 @@ fn read_compilation(
 ) -> Result<Request, WordsFault>
     ensures { IsReadAs (compilation_of command.now desc.now src.now) result }
 {
-    if command != "cc" || !names_file(desc) || !names_file(src) {
+    if !asks_for_compilation(command, desc, src) {
         return Err(WordsFault::BadWords);
     }
-    let desc = desc.to_string(alloc)?;
-    let src = src.to_string(alloc)?;
+    let Ok(desc) = desc.to_string(alloc) else {
+        return Err(WordsFault::NoMemory);
+    };
+    let Ok(src) = src.to_string(alloc) else {
+        return Err(WordsFault::NoMemory);
+    };
     Ok(Request::Cc {
         dump: false,
         plain: false,

@@ -188,7 +188,7 @@ fn first_unheeded(
 fn advice_to_porters(rt: HostRuntime) -> Result<(), Fail> {
     let alloc = rt.alloc();
     for mend in DUO_ACCEPTED {
-        assert!(rt; is_mended(alloc, duo(), &mend)?, "{mend:?}");
+        assert!(rt; is_mended(alloc, duo(), &mend)?);
     }
     assert_eq!(rt; first_unheeded(alloc, duo(), &DUO_ADVICE)?, None);
     assert_eq!(rt; first_unheeded(alloc, tri(), &TRI_ADVICE)?, None);

@@ -31,11 +31,7 @@ fn file(alloc: Global, name: &str, bytes: Option<&[u8]>) -> Result<MemFile, Allo
 
 /// A sink that takes so many bytes a call, and fails at the calls of these numbers.
 fn sink(alloc: Global, piece: usize, failing: &[u64]) -> Result<MemSink, AllocError> {
-    Ok(MemSink::new(
-        vec![in alloc; 0; 8192]?,
-        piece,
-        failing.to_vec(alloc)?,
-    ))
+    Ok(MemSink::new(vec![in alloc; 0; 8192]?, piece, failing.to_vec(alloc)?))
 }
 
 /// What the words do over a description `d` and a source `s`.
@@ -78,15 +74,12 @@ fn run(
 }
 
 fn is_as_said(alloc: Global, case: &Case) -> Result<bool, AllocError> {
-    let seen = run(
-        alloc,
-        case.words,
-        Some(case.description),
-        Some(case.source),
-    )?;
-    Ok(seen.outcome.code() == case.status
-        && seen.output.bytes() == case.output
-        && seen.errors.bytes() == case.told)
+    let seen = run(alloc, case.words, Some(case.description), Some(case.source))?;
+    Ok(
+        seen.outcome.code() == case.status
+            && seen.output.bytes() == case.output
+            && seen.errors.bytes() == case.told,
+    )
 }
 
 #[test]
@@ -127,10 +120,16 @@ fn words_are_refused(rt: HostRuntime) -> Result<(), Fail> {
 fn words_are_read(rt: HostRuntime) -> Result<(), Fail> {
     let alloc = rt.alloc();
     let words = owned(alloc, &["cc", "d", "s"])?;
-    assert!(rt; matches!(
-        read_words(alloc, &words),
-        Ok(Request::Cc { dump: false, plain: false, .. })
-    ));
+    assert!(rt;
+        matches!(
+            read_words(alloc, &words),
+            Ok(Request::Cc {
+                dump: false,
+                plain: false,
+                ..
+            })
+        )
+    );
     let words = owned(alloc, &["show", "mips"])?;
     assert!(rt; matches!(read_words(alloc, &words), Ok(Request::Show { which: 1 })));
     let words = owned(alloc, &["check", "d"])?;
@@ -149,11 +148,17 @@ fn files_that_are_long_or_missing(rt: HostRuntime) -> Result<(), Fail> {
     let seen = run(alloc, &cc, Some(long), None)?;
     assert_eq!(rt; seen.outcome, Outcome::FileTooLong(Which::Description));
     let seen = run(alloc, &cc, Some(TINY), Some(long))?;
-    assert_eq!(rt; seen.errors.bytes(), b"vpo: file too long: source\n".as_slice());
+    assert_eq!(rt;
+        seen.errors.bytes(),
+        b"vpo: file too long: source\n".as_slice()
+    );
     let seen = run(alloc, &cc, Some(TINY), Some(&long[1..]))?;
     assert_eq!(rt; seen.outcome.code(), 67);
     let seen = run(alloc, &["check", "d"], None, None)?;
-    assert_eq!(rt; seen.errors.bytes(), b"vpo: read fault: description\n".as_slice());
+    assert_eq!(rt;
+        seen.errors.bytes(),
+        b"vpo: read fault: description\n".as_slice()
+    );
     let seen = run(alloc, &cc, Some(TINY), None)?;
     assert_eq!(rt; seen.outcome, Outcome::ReadFault(Which::Text));
     Ok(())

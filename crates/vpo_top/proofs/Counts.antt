@@ -1,10 +1,10 @@
 -- How the counts of files move by what is asked for.
-use Rattle.std.proofs.Common.{◌≡◌, ◌≢◌, ℕ, ◌≤◌, List, Option, Some, None, refl, sym, subst, ap, ◌∙◌, arith, Bool, true, false, bytes_eq, Decides}
+use Rattle.std.proofs.Common.{◌≡◌, ◌≢◌, ℕ, ◌≤◌, List, Some, refl, sym, subst, ap, ◌∙◌, arith, Bool, true, false, bytes_eq, Decides}
 use Rattle.std.proofs.lemmas.Bool.Decides.{not_from_Decides}
 use Rattle.std.proofs.lemmas.Slice.Eq.{bytes_eq-Decides}
 use Rattle.vp_io.specs.Files.{FaultCounts, CountsOnly}
 use Rattle.vp_io.specs.declared.answers.Which.TheVariants.{Description, Text}
-use Rattle.vpo_top.specs.Request.{Asked, compilation}
+use Rattle.vpo_top.specs.Request.{compilation}
 use Rattle.vpo_top.specs.Request.Asked.{Check}
 use Rattle.vpo_top.specs.Faults.{CountsOnlyAsked}
 
@@ -41,10 +41,6 @@ both_counted desc src before mid now first then = record {
   total = omega (arith, first.total, then.total);
   of_name = λ name. omega (arith, never_falls desc before mid first name, never_falls src mid now then name);
   others = λ other unasked.
-    then.others other (λ is. unasked Text (ap (λ name. Some name) (sym is)))
-    ∙ first.others other (λ is. unasked Description (ap (λ name. Some name) (sym is)));
+      then.others other (λ is. unasked Text (ap (λ name. Some name) (sym is)))
+      ∙ first.others other (λ is. unasked Description (ap (λ name. Some name) (sym is)));
 }
-
--- nothing was fetched
-pub none_counted : (wanted : Option Asked) (counts : FaultCounts) → CountsOnlyAsked wanted counts counts
-none_counted wanted counts = record { total = omega arith; of_name = λ name. omega arith; others = λ other unasked. refl }

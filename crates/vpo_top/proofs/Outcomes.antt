@@ -1,5 +1,8 @@
 -- How the refusals of the two files come together.
-use Rattle.std.proofs.Common.{◌≡◌, ℕ, ◌≤◌, List, length, Some, None, refl, sym, subst}
+use Rattle.std.proofs.Common.{◌≡◌, ℕ, ◌≤◌, List, length, Option, Some, None, refl, sym, subst}
+use Rattle.std.specs.Io.KnownBytes.{Appends}
+use Rattle.vp_io.specs.Contents.{AppendsPart}
+use Rattle.vpo_top.specs.Headline.{IsWritten}
 use Rattle.vp_io.proofs.Counting.{rose_by_after}
 use Rattle.vpo_top.specs.Request.{compilation}
 use Rattle.vpo_top.specs.Faults.{HasReadCause}
@@ -86,3 +89,15 @@ pub write_fault_judged : (told : Told) (description source : List ℕ)
     → OfFiles told description source (λ machine_text source_text. Judges machine_text source_text WriteFault)
 write_fault_judged None description source accepted = tt
 write_fault_judged (Some files) description source accepted = accepted
+
+pub written_done : (told : Told) (description source text : List ℕ) (old new : Option (List ℕ))
+    → OfFiles told description source (λ machine_text source_text. IsCompiledTo machine_text source_text text) → Appends old new text
+    → OfFiles told description source (λ machine_text source_text. IsWritten machine_text source_text old new (Done 0))
+written_done None description source text old new compiled appends = tt
+written_done (Some files) description source text old new compiled appends = (text, compiled, appends)
+
+pub written_part : (told : Told) (description source text : List ℕ) (old new : Option (List ℕ))
+    → OfFiles told description source (λ machine_text source_text. IsCompiledTo machine_text source_text text) → AppendsPart old new text
+    → OfFiles told description source (λ machine_text source_text. IsWritten machine_text source_text old new WriteFault)
+written_part None description source text old new compiled appends = tt
+written_part (Some files) description source text old new compiled appends = (text, compiled, appends)

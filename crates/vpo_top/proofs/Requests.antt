@@ -5,8 +5,7 @@ use Rattle.std.proofs.lemmas.Slice.Eq.{bytes_eq-Decides}
 use Rattle.shipped.specs.declared.Shipped.{Shipped}
 use Rattle.shipped.specs.declared.Shipped.TheVariants.{Pdp11, Mips}
 use Rattle.shipped.specs.Shipped.{name_of}
-use Rattle.vp_io.specs.declared.answers.Which.TheVariants.{Description}
-use Rattle.vpo_top.specs.Request.{Asked, is_file_word, is_compilation_form, check_of, show_of, compilation, compilation_of, request_of, NamesNoFile}
+use Rattle.vpo_top.specs.Request.{Asked, is_file_word, is_compilation_form, check_of, show_of, compilation, request_of}
 use Rattle.vpo_top.specs.Request.Asked.{Check, Show, Cc}
 
 -- the name of no machine that comes with the program
@@ -19,21 +18,6 @@ not_shown name other =
     by_names true d m e = absurd (other Pdp11 (d.0 refl))
     by_names false d true e = absurd (other Mips (e.0 refl))
     by_names false d false e = refl
-
--- words of these forms name a file
-pub check_names : (desc : List ℕ) → is_file_word desc ≡ true → ¬ NamesNoFile (check_of desc)
-check_names desc is = by_form (is_file_word desc) is
-  where
-    by_form : (b : Bool) → b ≡ true → ¬ NamesNoFile (cond b (Some (Check desc)) None)
-    by_form true is unnamed = let named : Some desc ≡ None = unnamed Description in cc named
-    by_form false is unnamed = cc is
-
-pub compilation_names : (command desc src : List ℕ) → is_compilation_form command desc src ≡ true → ¬ NamesNoFile (compilation_of command desc src)
-compilation_names command desc src is = by_form (is_compilation_form command desc src) is
-  where
-    by_form : (b : Bool) → b ≡ true → ¬ NamesNoFile (cond b (compilation desc src) None)
-    by_form true is unnamed = let named : Some desc ≡ None = unnamed Description in cc named
-    by_form false is unnamed = cc is
 
 -- where a compilation is asked for, it has no options
 abbrev pub HasNoOptions : Option Asked → Type 0
@@ -53,9 +37,9 @@ no_options (command ∷ word ∷ []) =
     in_cond (bytes_eq command (codes "check")) (check_of word) (cond (bytes_eq command (codes "show")) (show_of word) None)
     (in_cond (is_file_word word) (Some (Check word)) None tt tt)
     (in_cond (bytes_eq command (codes "show")) (show_of word) None
-        (in_cond (bytes_eq word (name_of Pdp11)) (Some (Show 0)) (cond (bytes_eq word (name_of Mips)) (Some (Show 1)) None) tt
-            (in_cond (bytes_eq word (name_of Mips)) (Some (Show 1)) None tt tt))
-        tt)
+    (in_cond (bytes_eq word (name_of Pdp11)) (Some (Show 0)) (cond (bytes_eq word (name_of Mips)) (Some (Show 1)) None) tt
+    (in_cond (bytes_eq word (name_of Mips)) (Some (Show 1)) None tt tt))
+    tt)
 no_options (command ∷ desc ∷ src ∷ []) =
     in_cond (is_compilation_form command desc src) (compilation desc src) None (refl, refl) tt
 no_options (command ∷ desc ∷ src ∷ more ∷ rest) = tt

@@ -6,7 +6,7 @@ use Rattle.vp_io.specs.declared.answers.Outcome.TheVariants.{BadWords}
 use Rattle.shipped.specs.declared.Shipped.{Shipped}
 use Rattle.shipped.specs.declared.Shipped.TheVariants.{Pdp11, Mips}
 use Rattle.vpo_top.specs.Outside.{Outside, FilesSeen, SinkSeen}
-use Rattle.vpo_top.specs.Request.{Asked, NamesNoFile, ReadsNoInput}
+use Rattle.vpo_top.specs.Request.{Asked, names_a_file, ReadsNoInput}
 use Rattle.vpo_top.specs.Request.Asked.{Check, Show, Cc}
 use Rattle.vpo_top.specs.Judgement.{OfFiles, Judges, IsOfCompilation, IsRefusal}
 use Rattle.vpo_top.specs.Headline.{IsWritten}
@@ -60,7 +60,7 @@ pub record IsAnswered {F S K E : Type 0} (wanted : Option Asked) (before now : O
   pub cause : HasCause wanted before now outcome
   -- no fault is counted of a file that no word names; words without a name fetch none, and no file is changed
   pub fetched : CountsOnlyAsked wanted before.files.faults now.files.faults
-  pub not_fetched : NamesNoFile wanted → now.files ≡ before.files
+  pub not_fetched : names_a_file wanted ≡ false → now.files ≡ before.files
   pub files_kept : now.files.told ≡ before.files.told
   -- a refusal, and want of memory, leave the output untouched
   pub untouched : IsRefusal outcome → now.output ≡ before.output

@@ -1,5 +1,5 @@
 -- What the words of the command line ask for.
-use Rattle.std.specs.Prelude.{◌≡◌, ℕ, Bool, false, not, cond, ◌&&◌, ◌==◌, List, [], ◌∷◌, map, Option, Some, None, Result, Ok, Err, bytes_eq, codes, string_bytes, String, ⊤}
+use Rattle.std.specs.Prelude.{◌≡◌, ℕ, Bool, true, false, not, cond, ◌&&◌, ◌==◌, List, [], ◌∷◌, map, Option, Some, None, Result, Ok, Err, bytes_eq, codes, string_bytes, String, ⊤}
 use Rattle.std.specs.declared.alloc.Global.{Global}
 use Rattle.vp_io.specs.declared.answers.Which.{Which}
 use Rattle.vp_io.specs.declared.answers.Which.TheVariants.{Description, Text}
@@ -67,9 +67,12 @@ name_asked (Some (Cc dump plain desc src)) Text = Some src
 name_asked (Some (Cc dump plain desc src)) _ = None
 name_asked None _ = None
 
--- no file is asked for
-abbrev pub NamesNoFile : Option Asked → Type 0
-NamesNoFile wanted = (which : Which) → name_asked wanted which ≡ None
+-- some file is asked for
+abbrev pub names_a_file : Option Asked → Bool
+names_a_file (Some (Check desc)) = true
+names_a_file (Some (Show which)) = false
+names_a_file (Some (Cc dump plain desc src)) = true
+names_a_file None = false
 
 -- what is asked for leaves the input alone
 abbrev pub ReadsNoInput : Option Asked → Type 0
@@ -82,4 +85,4 @@ ReadsNoInput None = ⊤
 abbrev pub IsReadAs : Option Asked → Result Request WordsFault → Type 0
 IsReadAs wanted (Ok request) = wanted ≡ Some (asked request)
 IsReadAs wanted (Err BadWords) = wanted ≡ None
-IsReadAs wanted (Err NoMemory) = ¬ NamesNoFile wanted
+IsReadAs wanted (Err NoMemory) = names_a_file wanted ≡ true

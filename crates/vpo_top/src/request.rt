@@ -11,9 +11,13 @@ use thiserror::Error;
 #[derive(Debug, Drop)]
 pub enum Request {
     /// The description in a file is judged.
-    Check { desc: String },
+    Check {
+        desc: String,
+    },
     /// A description that comes with the program is written: 0 is that of pdp11, 1 that of mips.
-    Show { which: u8 },
+    Show {
+        which: u8,
+    },
     /// The source in a file is compiled for the machine that a file describes. No words ask for the dumps of the passes, or for plain
     /// code, so far.
     Cc {

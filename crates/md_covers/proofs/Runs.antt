@@ -65,8 +65,6 @@ up_to d step s = omega arith
 past : (d step : ℕ) → 0 < step → d < (d / step + 1) * step
 past d step s = omega arith
 
-]
-
 gap_above : (a step h i : ℕ) → 0 < step → h < a + i * step → next_above a step h ≤ a + i * step
 gap_above a step h i s e = elim (split a h) [
   | inl k ↦

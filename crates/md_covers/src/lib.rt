@@ -16,4 +16,3 @@ mod registers;
 pub use covering::covers;
 pub use lines::fits_line;
 pub use registers::general_bits;
-

@@ -1,8 +1,8 @@
 //! Texts with their transfers and faults, worked out by hand.
 
 use super::names;
-use rtl_text::{OpenHole, TextFault, print_transfer, read_holed, read_transfer};
 use rtl_text::TextFault::{BadForm, BadToken, IllFormed, TooDeep};
+use rtl_text::{OpenHole, TextFault, print_transfer, read_holed, read_transfer};
 use rtl_tree::{Cell, Effects, Expr, NoMemory, Place, Width};
 use rtl_word::{W16, W32, Word};
 use std::alloc::Global;

@@ -30,7 +30,11 @@ fn compared(alloc: Global, left: &str, right: &str) -> Result<(bool, bool), Text
 fn trees_are_taken_copied_and_compared(rt: HostRuntime) -> Result<(), Fail> {
     let alloc = rt.alloc();
     for (left, right, equal, matching) in PAIRS {
-        assert_eq!(rt; compared(alloc, left, right)?, (equal, matching), "{left} {right}");
+        assert_eq!(rt;
+            compared(alloc, left, right)?,
+            (equal, matching),
+            "{left} {right}"
+        );
     }
     let mut sum = value(alloc, "r[3] = (r[1] + 2)")?;
     let other = copy(alloc, &sum)?;

@@ -10,6 +10,7 @@ ghost use Rattle.c_reading.specs.Ahead.{ReadsAt, shallow};
 
 use crate::expressions::{assignment, conditional, type_words};
 use crate::fault::Fault;
+use crate::nodes::push;
 use crate::tokens::{eat, expect, more, name, name_if_any, peek, place};
 use c_grammar::Sign;
 use c_tree::syntax::{
@@ -17,13 +18,13 @@ use c_tree::syntax::{
     TypeWords,
 };
 use c_tree::{At, Token};
-use sqlite_items::Items;
+use sqlite_items::{Boxed, Items};
 use std::alloc::Global;
 
 /// Objects with their semicolon, or a function up to its closing parenthesis.
 #[derive(Drop)]
 pub enum Opening {
-    Objects(Declaration),
+    Objects(Boxed<Declaration>),
     Function(At, Return, Identifier, Parameters),
 }
 
@@ -34,15 +35,17 @@ fn given_size(
     depth: usize,
     nesting: u32,
     tokens: &[Token],
-) -> Result<(Size, &[Token]), Fault>
+) -> Result<(Boxed<Size>, &[Token]), Fault>
     requires { nesting ≤ 200 }
     ensures reads { ReadsAt nesting (spec.given_size shallow (read shallow depth) nesting (lexemes tokens.now)) result }
 {
     if peek(tokens) == Sign::RightBracket {
-        return Ok((Size::Absent, eat(nesting, tokens)?));
+        let tokens = eat(nesting, tokens)?;
+        return Ok((Boxed::new(alloc, Size::Absent)?, tokens));
     }
     let (e, _, tokens) = conditional(alloc, depth, nesting + 1, tokens)?;
-    Ok((Size::Given(e), expect(Sign::RightBracket, nesting, tokens)?))
+    let tokens = expect(Sign::RightBracket, nesting, tokens)?;
+    Ok((Boxed::new(alloc, Size::Given(e.into_inner()))?, tokens))
 }
 
 #[tactic(auto, unfolding(crate::specs::Declarations::size))]
@@ -51,7 +54,7 @@ fn size(
     depth: usize,
     nesting: u32,
     tokens: &[Token],
-) -> Result<(Size, &[Token]), Fault>
+) -> Result<(Boxed<Size>, &[Token]), Fault>
     requires { nesting ≤ 200 }
     ensures reads { ReadsAt nesting (spec.size shallow (read shallow depth) nesting (lexemes tokens.now)) result }
 {
@@ -59,7 +62,7 @@ fn size(
         let tokens = eat(nesting, tokens)?;
         given_size(alloc, depth, nesting, tokens)
     } else {
-        Ok((Size::Scalar, tokens))
+        Ok((Boxed::new(alloc, Size::Scalar)?, tokens))
     }
 }
 
@@ -84,7 +87,7 @@ fn next_value(
     depth: usize,
     nesting: u32,
     tokens: &[Token],
-) -> Result<((Expr, Option<bool>), &[Token]), Fault>
+) -> Result<((Boxed<Expr>, Option<bool>), &[Token]), Fault>
     requires { nesting ≤ 200 }
     ensures reads { ReadsAt nesting (spec.next_value shallow depth nesting (lexemes tokens.now)) result }
 {
@@ -101,7 +104,7 @@ fn values(
     at: At,
     nesting: u32,
     tokens: &[Token],
-) -> Result<(Initialiser, &[Token]), Fault>
+) -> Result<(Boxed<Initialiser>, &[Token]), Fault>
     requires { nesting ≤ 200 }
     ensures reads { ReadsAt nesting (spec.values shallow depth at [] nesting (lexemes tokens.now)) result }
 {
@@ -110,9 +113,10 @@ fn values(
     while depth > 0 {
         depth -= 1;
         let ((e, end), behind) = next_value(alloc, depth, nesting, rest)?;
-        values.push(e)?;
+        push(&mut values, e)?;
         if let Some(comma) = end {
-            return Ok((Initialiser::List(at, values, comma), behind));
+            let list = Boxed::new(alloc, Initialiser::List(at, values, comma))?;
+            return Ok((list, behind));
         }
         rest = behind;
     }
@@ -126,7 +130,7 @@ fn value(
     depth: usize,
     nesting: u32,
     tokens: &[Token],
-) -> Result<(Initialiser, &[Token]), Fault>
+) -> Result<(Boxed<Initialiser>, &[Token]), Fault>
     requires { nesting ≤ 200 }
     ensures reads { ReadsAt nesting (spec.value shallow depth nesting (lexemes tokens.now)) result }
 {
@@ -138,7 +142,7 @@ fn value(
         }
         _ => {
             let (e, tokens) = assignment(alloc, depth, nesting, tokens)?;
-            Ok((Initialiser::Value(e), tokens))
+            Ok((Boxed::new(alloc, Initialiser::Value(e.into_inner()))?, tokens))
         }
     }
 }
@@ -149,7 +153,7 @@ fn initialiser(
     depth: usize,
     nesting: u32,
     tokens: &[Token],
-) -> Result<(Initialiser, &[Token]), Fault>
+) -> Result<(Boxed<Initialiser>, &[Token]), Fault>
     requires { nesting ≤ 200 }
     ensures reads { ReadsAt nesting (spec.initialiser shallow depth nesting (lexemes tokens.now)) result }
 {
@@ -157,7 +161,7 @@ fn initialiser(
         let tokens = eat(nesting, tokens)?;
         value(alloc, depth, nesting, tokens)
     } else {
-        Ok((Initialiser::Absent, tokens))
+        Ok((Boxed::new(alloc, Initialiser::Absent)?, tokens))
     }
 }
 
@@ -169,7 +173,7 @@ fn object(
     name: Identifier,
     nesting: u32,
     tokens: &[Token],
-) -> Result<(Item, &[Token]), Fault>
+) -> Result<(Boxed<Item>, &[Token]), Fault>
     requires { nesting ≤ 200 }
     ensures reads { ReadsAt nesting (spec.object shallow depth name nesting (lexemes tokens.now)) result }
 {
@@ -177,10 +181,10 @@ fn object(
     let (initialiser, tokens) = initialiser(alloc, depth, nesting, tokens)?;
     let item = Item {
         name,
-        size,
-        initialiser,
+        size: size.into_inner(),
+        initialiser: initialiser.into_inner(),
     };
-    Ok((item, tokens))
+    Ok((Boxed::new(alloc, item)?, tokens))
 }
 
 /// An object, and whether a comma stands behind it.
@@ -191,7 +195,7 @@ fn next_object(
     name: Identifier,
     nesting: u32,
     tokens: &[Token],
-) -> Result<((Item, bool), &[Token]), Fault>
+) -> Result<((Boxed<Item>, bool), &[Token]), Fault>
     requires { nesting ≤ 200 }
     ensures reads { ReadsAt nesting (spec.next_object shallow depth name nesting (lexemes tokens.now)) result }
 {
@@ -206,7 +210,7 @@ fn next_item(
     depth: usize,
     nesting: u32,
     tokens: &[Token],
-) -> Result<((Item, bool), &[Token]), Fault>
+) -> Result<((Boxed<Item>, bool), &[Token]), Fault>
     ensures reads { ReadsAt nesting (spec.next_item shallow depth nesting (lexemes tokens.now)) result }
 {
     let (name, tokens) = name(alloc, nesting, tokens)?;
@@ -228,7 +232,7 @@ fn items_behind(
     while depth > 0 {
         depth -= 1;
         let ((item, goes_on), behind) = next_item(alloc, depth, nesting, rest)?;
-        items.push(item)?;
+        push(&mut items, item)?;
         if !goes_on {
             return Ok((items, behind));
         }
@@ -251,7 +255,7 @@ fn objects(
 {
     let ((first, goes_on), tokens) = next_object(alloc, depth, name, nesting, tokens)?;
     let mut items = Items::new(alloc);
-    items.push(first)?;
+    push(&mut items, first)?;
     if goes_on {
         items_behind(alloc, depth, items, nesting, tokens)
     } else {
@@ -336,12 +340,13 @@ fn heading(
     name: Identifier,
     nesting: u32,
     tokens: &[Token],
-) -> Result<(Opening, &[Token]), Fault>
+) -> Result<(Boxed<Opening>, &[Token]), Fault>
     ensures reads { ReadsAt nesting (spec.heading shallow depth at gives name nesting (lexemes tokens.now)) result }
 {
     let tokens = expect(Sign::LeftParen, nesting, tokens)?;
     let (parameters, tokens) = parameters(alloc, depth, nesting, tokens)?;
-    Ok((Opening::Function(at, gives, name, parameters), tokens))
+    let opening = Boxed::new(alloc, Opening::Function(at, gives, name, parameters))?;
+    Ok((opening, tokens))
 }
 
 /// What stands behind the type of a declaration.
@@ -353,7 +358,7 @@ fn typed_opening(
     words: TypeWords,
     nesting: u32,
     tokens: &[Token],
-) -> Result<(Opening, &[Token]), Fault>
+) -> Result<(Boxed<Opening>, &[Token]), Fault>
     ensures reads { ReadsAt nesting (spec.typed_opening shallow depth at words nesting (lexemes tokens.now)) result }
 {
     let (name, tokens) = name(alloc, nesting, tokens)?;
@@ -369,10 +374,8 @@ fn typed_opening(
         );
     }
     let (items, tokens) = objects(alloc, depth, name, nesting, tokens)?;
-    Ok((
-        Opening::Objects(Declaration::Objects(at, words, items)),
-        tokens,
-    ))
+    let declaration = Boxed::new(alloc, Declaration::Objects(at, words, items))?;
+    Ok((Boxed::new(alloc, Opening::Objects(declaration))?, tokens))
 }
 
 #[tactic(auto, unfolding(crate::specs::Declarations::opening))]
@@ -381,7 +384,7 @@ pub fn open_declaration(
     depth: usize,
     nesting: u32,
     tokens: &[Token],
-) -> Result<(Opening, &[Token]), Fault>
+) -> Result<(Boxed<Opening>, &[Token]), Fault>
     ensures reads { ReadsAt nesting (spec.opening shallow depth nesting (lexemes tokens.now)) result }
 {
     let at = place(tokens);
@@ -404,15 +407,16 @@ pub fn declaration(
     depth: usize,
     nesting: u32,
     tokens: &[Token],
-) -> Result<(Declaration, &[Token]), Fault>
+) -> Result<(Boxed<Declaration>, &[Token]), Fault>
     ensures reads { ReadsAt nesting (spec.declaration shallow depth nesting (lexemes tokens.now)) result }
 {
     let (opening, tokens) = open_declaration(alloc, depth, nesting, tokens)?;
-    match opening {
+    match opening.into_inner() {
         Opening::Objects(declaration) => Ok((declaration, tokens)),
         Opening::Function(at, gives, name, parameters) => {
             let tokens = expect(Sign::Semicolon, nesting, tokens)?;
-            Ok((Declaration::Function(at, gives, name, parameters), tokens))
+            let function = Boxed::new(alloc, Declaration::Function(at, gives, name, parameters))?;
+            Ok((function, tokens))
         }
     }
 }

@@ -7,12 +7,13 @@ ghost use Rattle.c_reading.specs.Ahead.{Answers, NotOut, ReadsAt, shallow};
 
 use crate::declarations::{Opening, open_declaration};
 use crate::fault::Fault;
+use crate::nodes::push;
 use crate::statements::block;
 use crate::tokens::{eat, expect, peek, place};
 use c_grammar::Sign;
 use c_tree::Token;
 use c_tree::syntax::{Declaration, External, Syntax};
-use sqlite_items::Items;
+use sqlite_items::{Boxed, Items};
 use std::alloc::Global;
 
 /// What stands behind the opening of a part.
@@ -20,15 +21,18 @@ use std::alloc::Global;
 fn part(
     alloc: Global,
     depth: usize,
-    opening: Opening,
+    opening: Boxed<Opening>,
     nesting: u32,
     tokens: &[Token],
-) -> Result<(External, &[Token]), Fault>
+) -> Result<(Boxed<External>, &[Token]), Fault>
     requires { nesting ≤ 200 }
     ensures reads { ReadsAt nesting (spec.part shallow depth opening nesting (lexemes tokens.now)) result }
 {
-    match opening {
-        Opening::Objects(declaration) => Ok((External::Declared(declaration), tokens)),
+    match opening.into_inner() {
+        Opening::Objects(declaration) => {
+            let part = Boxed::new(alloc, External::Declared(declaration.into_inner()))?;
+            Ok((part, tokens))
+        }
         Opening::Function(at, gives, name, parameters) => {
             if peek(tokens) == Sign::LeftBrace {
                 let brace = place(tokens);
@@ -41,11 +45,12 @@ fn part(
                     brace,
                     body,
                 };
-                return Ok((part, tokens));
+                return Ok((Boxed::new(alloc, part)?, tokens));
             }
             let tokens = expect(Sign::Semicolon, nesting, tokens)?;
             let declaration = Declaration::Function(at, gives, name, parameters);
-            Ok((External::Declared(declaration), tokens))
+            let part = Boxed::new(alloc, External::Declared(declaration))?;
+            Ok((part, tokens))
         }
     }
 }
@@ -56,7 +61,7 @@ fn external(
     depth: usize,
     nesting: u32,
     tokens: &[Token],
-) -> Result<(External, &[Token]), Fault>
+) -> Result<(Boxed<External>, &[Token]), Fault>
     requires { nesting ≤ 200 }
     ensures reads { ReadsAt nesting (spec.external shallow depth nesting (lexemes tokens.now)) result }
 {
@@ -64,7 +69,7 @@ fn external(
         Sign::Include => {
             let at = place(tokens);
             let tokens = eat(nesting, tokens)?;
-            Ok((External::Include(at), tokens))
+            Ok((Boxed::new(alloc, External::Include(at))?, tokens))
         }
         _ => {
             let (opening, tokens) = open_declaration(alloc, depth, nesting, tokens)?;
@@ -93,7 +98,7 @@ pub fn parts(
             return Ok((Syntax { parts, end }, rest));
         }
         let (part, behind) = external(alloc, depth, nesting, rest)?;
-        parts.push(part)?;
+        push(&mut parts, part)?;
         rest = behind;
     }
     Err(Fault::Out)

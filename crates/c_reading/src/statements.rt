@@ -11,6 +11,7 @@ ghost use Rattle.c_reading.specs.Ahead.{Reads, ReadsAt, shallow};
 use crate::declarations::declaration;
 use crate::expressions::{conditional, expression};
 use crate::fault::Fault;
+use crate::nodes::{push, unboxed};
 use crate::tokens::{eat, expect, peek, place};
 use crate::trees::begins_declaration;
 use c_grammar::Sign;
@@ -26,7 +27,7 @@ fn condition(
     depth: usize,
     nesting: u32,
     tokens: &[Token],
-) -> Result<(Expr, u32, &[Token]), Fault>
+) -> Result<(Boxed<Expr>, u32, &[Token]), Fault>
     ensures reads { Reads (spec.condition shallow (read shallow depth) nesting (lexemes tokens.now)) result }
     ensures few { IfOk result (λ x. x.1 ≤ 200) }
 {
@@ -43,7 +44,7 @@ fn optional(
     close: Sign,
     nesting: u32,
     tokens: &[Token],
-) -> Result<(Option<Expr>, u32, &[Token]), Fault>
+) -> Result<(Option<Boxed<Expr>>, u32, &[Token]), Fault>
     requires { nesting ≤ 201 }
     ensures reads { Reads (spec.optional shallow (read shallow depth) close nesting (lexemes tokens.now)) result }
     ensures few { IfOk result (λ x. x.1 ≤ 200) }
@@ -62,7 +63,7 @@ fn do_end(
     depth: usize,
     nesting: u32,
     tokens: &[Token],
-) -> Result<(Expr, u32, &[Token]), Fault>
+) -> Result<(Boxed<Expr>, u32, &[Token]), Fault>
     ensures reads { Reads (spec.do_end shallow (read shallow depth) nesting (lexemes tokens.now)) result }
     ensures few { IfOk result (λ x. x.1 ≤ 200) }
 {
@@ -78,7 +79,7 @@ fn case_label(
     depth: usize,
     nesting: u32,
     tokens: &[Token],
-) -> Result<(Expr, &[Token]), Fault>
+) -> Result<(Boxed<Expr>, &[Token]), Fault>
     ensures reads { ReadsAt nesting (spec.case_label shallow (read shallow depth) nesting (lexemes tokens.now)) result }
     ensures few { IfOk result (λ _. nesting ≤ 200) }
 {
@@ -93,21 +94,20 @@ fn started(
     depth: usize,
     nesting: u32,
     tokens: &[Token],
-) -> Result<(Start, u32, &[Token]), Fault>
+) -> Result<(Boxed<Start>, u32, &[Token]), Fault>
     requires { nesting ≤ 200 }
     ensures reads { Reads (spec.started shallow depth nesting (lexemes tokens.now)) result }
     ensures few { IfOk result (λ x. x.1 ≤ 200) }
 {
     if begins_declaration(peek(tokens)) {
         let (declaration, tokens) = declaration(alloc, depth, nesting, tokens)?;
-        return Ok((Start::Declared(declaration), nesting, tokens));
+        let start = Boxed::new(alloc, Start::Declared(declaration.into_inner()))?;
+        return Ok((start, nesting, tokens));
     }
     let (e, nesting, tokens) = expression(alloc, depth, nesting, tokens)?;
-    Ok((
-        Start::Value(e),
-        nesting,
-        expect(Sign::Semicolon, nesting, tokens)?,
-    ))
+    let tokens = expect(Sign::Semicolon, nesting, tokens)?;
+    let start = Boxed::new(alloc, Start::Value(e.into_inner()))?;
+    Ok((start, nesting, tokens))
 }
 
 /// What stands before the first semicolon of a `for`.
@@ -117,13 +117,16 @@ fn start(
     depth: usize,
     nesting: u32,
     tokens: &[Token],
-) -> Result<(Start, u32, &[Token]), Fault>
+) -> Result<(Boxed<Start>, u32, &[Token]), Fault>
     requires { nesting ≤ 200 }
     ensures reads { Reads (spec.start shallow depth nesting (lexemes tokens.now)) result }
     ensures few { IfOk result (λ x. x.1 ≤ 200) }
 {
     match peek(tokens) {
-        Sign::Semicolon => Ok((Start::Absent, nesting, eat(nesting, tokens)?)),
+        Sign::Semicolon => {
+            let tokens = eat(nesting, tokens)?;
+            Ok((Boxed::new(alloc, Start::Absent)?, nesting, tokens))
+        }
         _ => started(alloc, depth, nesting, tokens),
     }
 }
@@ -135,7 +138,7 @@ fn for_header(
     depth: usize,
     nesting: u32,
     tokens: &[Token],
-) -> Result<((Start, Option<Expr>, Option<Expr>), u32, &[Token]), Fault>
+) -> Result<((Boxed<Start>, Option<Boxed<Expr>>, Option<Boxed<Expr>>), u32, &[Token]), Fault>
     ensures reads { Reads (spec.for_header shallow depth nesting (lexemes tokens.now)) result }
     ensures few { IfOk result (λ x. x.1 ≤ 200) }
 {
@@ -154,13 +157,14 @@ fn return_statement(
     at: At,
     nesting: u32,
     tokens: &[Token],
-) -> Result<(Statement, u32, &[Token]), Fault>
+) -> Result<(Boxed<Statement>, u32, &[Token]), Fault>
     requires { nesting ≤ 201 }
     ensures reads { Reads (spec.return_statement shallow depth (spec.statements shallow depth) at nesting (lexemes tokens.now)) result }
 {
     let tokens = eat(nesting, tokens)?;
     let (e, nesting, tokens) = optional(alloc, depth, Sign::Semicolon, nesting, tokens)?;
-    Ok((Statement::Return(at, e), nesting, tokens))
+    let statement = Boxed::new(alloc, Statement::Return(at, unboxed(e)))?;
+    Ok((statement, nesting, tokens))
 }
 
 #[tactic(auto, unfolding(crate::specs::Statements::break_statement))]
@@ -170,13 +174,14 @@ fn break_statement(
     at: At,
     nesting: u32,
     tokens: &[Token],
-) -> Result<(Statement, u32, &[Token]), Fault>
+) -> Result<(Boxed<Statement>, u32, &[Token]), Fault>
     requires { nesting ≤ 201 }
     ensures reads { Reads (spec.break_statement shallow depth (spec.statements shallow depth) at nesting (lexemes tokens.now)) result }
 {
     let tokens = eat(nesting, tokens)?;
     let tokens = expect(Sign::Semicolon, nesting, tokens)?;
-    Ok((Statement::Break(at), nesting, tokens))
+    let statement = Boxed::new(alloc, Statement::Break(at))?;
+    Ok((statement, nesting, tokens))
 }
 
 #[tactic(auto, unfolding(crate::specs::Statements::continue_statement))]
@@ -186,13 +191,14 @@ fn continue_statement(
     at: At,
     nesting: u32,
     tokens: &[Token],
-) -> Result<(Statement, u32, &[Token]), Fault>
+) -> Result<(Boxed<Statement>, u32, &[Token]), Fault>
     requires { nesting ≤ 201 }
     ensures reads { Reads (spec.continue_statement shallow depth (spec.statements shallow depth) at nesting (lexemes tokens.now)) result }
 {
     let tokens = eat(nesting, tokens)?;
     let tokens = expect(Sign::Semicolon, nesting, tokens)?;
-    Ok((Statement::Continue(at), nesting, tokens))
+    let statement = Boxed::new(alloc, Statement::Continue(at))?;
+    Ok((statement, nesting, tokens))
 }
 
 #[tactic(auto, unfolding(crate::specs::Statements::expression_statement))]
@@ -202,12 +208,13 @@ fn expression_statement(
     at: At,
     nesting: u32,
     tokens: &[Token],
-) -> Result<(Statement, u32, &[Token]), Fault>
+) -> Result<(Boxed<Statement>, u32, &[Token]), Fault>
     requires { nesting ≤ 201 }
     ensures reads { Reads (spec.expression_statement shallow depth (spec.statements shallow depth) at nesting (lexemes tokens.now)) result }
 {
     let (e, nesting, tokens) = optional(alloc, depth, Sign::Semicolon, nesting, tokens)?;
-    Ok((Statement::Evaluate(at, e), nesting, tokens))
+    let statement = Boxed::new(alloc, Statement::Evaluate(at, unboxed(e)))?;
+    Ok((statement, nesting, tokens))
 }
 
 #[tactic(auto, unfolding(crate::specs::Statements::block))]
@@ -234,12 +241,13 @@ fn block_statement(
     at: At,
     nesting: u32,
     tokens: &[Token],
-) -> Result<(Statement, u32, &[Token]), Fault>
+) -> Result<(Boxed<Statement>, u32, &[Token]), Fault>
     requires { nesting ≤ 201 }
     ensures reads { Reads (spec.block_statement shallow depth (spec.statements shallow depth) at nesting (lexemes tokens.now)) result }
 {
     let (statements, tokens) = block(alloc, depth, nesting, tokens)?;
-    Ok((Statement::Block(at, statements), nesting, tokens))
+    let statement = Boxed::new(alloc, Statement::Block(at, statements))?;
+    Ok((statement, nesting, tokens))
 }
 
 /// What stands behind the first statement of an `if`.
@@ -256,7 +264,7 @@ fn else_branch(
     match peek(tokens) {
         Sign::Else => {
             let tokens = eat(nesting, tokens)?;
-            let (statement, tokens) = inner(alloc, depth, nesting, tokens)?;
+            let (statement, tokens) = statement(alloc, depth, nesting, tokens)?;
             Ok((Some(statement), tokens))
         }
         _ => Ok((None, tokens)),
@@ -271,15 +279,16 @@ fn if_statement(
     at: At,
     nesting: u32,
     tokens: &[Token],
-) -> Result<(Statement, u32, &[Token]), Fault>
+) -> Result<(Boxed<Statement>, u32, &[Token]), Fault>
     requires { nesting ≤ 201 }
     ensures reads { Reads (spec.if_statement shallow depth (spec.statements shallow depth) at nesting (lexemes tokens.now)) result }
 {
     let tokens = eat(nesting, tokens)?;
     let (test, nesting, tokens) = condition(alloc, depth, nesting, tokens)?;
-    let (then, tokens) = inner(alloc, depth, nesting, tokens)?;
+    let (then, tokens) = statement(alloc, depth, nesting, tokens)?;
     let (other, tokens) = else_branch(alloc, depth, nesting, tokens)?;
-    Ok((Statement::If(at, test, then, other), nesting, tokens))
+    let statement = Boxed::new(alloc, Statement::If(at, test.into_inner(), then, other))?;
+    Ok((statement, nesting, tokens))
 }
 
 #[tactic(auto, unfolding(crate::specs::Statements::while_statement))]
@@ -290,14 +299,15 @@ fn while_statement(
     at: At,
     nesting: u32,
     tokens: &[Token],
-) -> Result<(Statement, u32, &[Token]), Fault>
+) -> Result<(Boxed<Statement>, u32, &[Token]), Fault>
     requires { nesting ≤ 201 }
     ensures reads { Reads (spec.while_statement shallow depth (spec.statements shallow depth) at nesting (lexemes tokens.now)) result }
 {
     let tokens = eat(nesting, tokens)?;
     let (test, nesting, tokens) = condition(alloc, depth, nesting, tokens)?;
-    let (body, tokens) = inner(alloc, depth, nesting, tokens)?;
-    Ok((Statement::While(at, test, body), nesting, tokens))
+    let (body, tokens) = statement(alloc, depth, nesting, tokens)?;
+    let statement = Boxed::new(alloc, Statement::While(at, test.into_inner(), body))?;
+    Ok((statement, nesting, tokens))
 }
 
 #[tactic(auto, unfolding(crate::specs::Statements::do_statement))]
@@ -308,14 +318,15 @@ fn do_statement(
     at: At,
     nesting: u32,
     tokens: &[Token],
-) -> Result<(Statement, u32, &[Token]), Fault>
+) -> Result<(Boxed<Statement>, u32, &[Token]), Fault>
     requires { nesting ≤ 201 }
     ensures reads { Reads (spec.do_statement shallow depth (spec.statements shallow depth) at nesting (lexemes tokens.now)) result }
 {
     let tokens = eat(nesting, tokens)?;
-    let (body, tokens) = inner(alloc, depth, nesting, tokens)?;
+    let (body, tokens) = statement(alloc, depth, nesting, tokens)?;
     let (test, nesting, tokens) = do_end(alloc, depth, nesting, tokens)?;
-    Ok((Statement::DoWhile(at, body, test), nesting, tokens))
+    let statement = Boxed::new(alloc, Statement::DoWhile(at, body, test.into_inner()))?;
+    Ok((statement, nesting, tokens))
 }
 
 #[tactic(auto, unfolding(crate::specs::Statements::for_statement))]
@@ -326,13 +337,17 @@ fn for_statement(
     at: At,
     nesting: u32,
     tokens: &[Token],
-) -> Result<(Statement, u32, &[Token]), Fault>
+) -> Result<(Boxed<Statement>, u32, &[Token]), Fault>
     requires { nesting ≤ 201 }
     ensures reads { Reads (spec.for_statement shallow depth (spec.statements shallow depth) at nesting (lexemes tokens.now)) result }
 {
     let ((start, test, step), nesting, tokens) = for_header(alloc, depth, nesting, tokens)?;
-    let (body, tokens) = inner(alloc, depth, nesting, tokens)?;
-    Ok((Statement::For(at, start, test, step, body), nesting, tokens))
+    let (body, tokens) = statement(alloc, depth, nesting, tokens)?;
+    let statement = Boxed::new(
+        alloc,
+        Statement::For(at, start.into_inner(), unboxed(test), unboxed(step), body),
+    )?;
+    Ok((statement, nesting, tokens))
 }
 
 #[tactic(auto, unfolding(crate::specs::Statements::switch_statement))]
@@ -343,14 +358,15 @@ fn switch_statement(
     at: At,
     nesting: u32,
     tokens: &[Token],
-) -> Result<(Statement, u32, &[Token]), Fault>
+) -> Result<(Boxed<Statement>, u32, &[Token]), Fault>
     requires { nesting ≤ 201 }
     ensures reads { Reads (spec.switch_statement shallow depth (spec.statements shallow depth) at nesting (lexemes tokens.now)) result }
 {
     let tokens = eat(nesting, tokens)?;
     let (e, nesting, tokens) = condition(alloc, depth, nesting, tokens)?;
     let (statements, tokens) = block(alloc, depth, nesting, tokens)?;
-    Ok((Statement::Switch(at, e, statements), nesting, tokens))
+    let statement = Boxed::new(alloc, Statement::Switch(at, e.into_inner(), statements))?;
+    Ok((statement, nesting, tokens))
 }
 
 #[tactic(auto, unfolding(crate::specs::Statements::case_statement))]
@@ -361,13 +377,14 @@ fn case_statement(
     at: At,
     nesting: u32,
     tokens: &[Token],
-) -> Result<(Statement, u32, &[Token]), Fault>
+) -> Result<(Boxed<Statement>, u32, &[Token]), Fault>
     requires { nesting ≤ 201 }
     ensures reads { Reads (spec.case_statement shallow depth (spec.statements shallow depth) at nesting (lexemes tokens.now)) result }
 {
     let (value, tokens) = case_label(alloc, depth, nesting, tokens)?;
-    let (body, tokens) = inner(alloc, depth, nesting, tokens)?;
-    Ok((Statement::Case(at, value, body), nesting, tokens))
+    let (body, tokens) = statement(alloc, depth, nesting, tokens)?;
+    let statement = Boxed::new(alloc, Statement::Case(at, value.into_inner(), body))?;
+    Ok((statement, nesting, tokens))
 }
 
 #[tactic(auto, unfolding(crate::specs::Statements::default_statement))]
@@ -378,14 +395,15 @@ fn default_statement(
     at: At,
     nesting: u32,
     tokens: &[Token],
-) -> Result<(Statement, u32, &[Token]), Fault>
+) -> Result<(Boxed<Statement>, u32, &[Token]), Fault>
     requires { nesting ≤ 201 }
     ensures reads { Reads (spec.default_statement shallow depth (spec.statements shallow depth) at nesting (lexemes tokens.now)) result }
 {
     let tokens = eat(nesting, tokens)?;
     let tokens = expect(Sign::Colon, nesting, tokens)?;
-    let (body, tokens) = inner(alloc, depth, nesting, tokens)?;
-    Ok((Statement::Default(at, body), nesting, tokens))
+    let (body, tokens) = statement(alloc, depth, nesting, tokens)?;
+    let statement = Boxed::new(alloc, Statement::Default(at, body))?;
+    Ok((statement, nesting, tokens))
 }
 
 /// A statement, whose first token stands there.
@@ -397,7 +415,7 @@ fn statement_at(
     at: At,
     nesting: u32,
     tokens: &[Token],
-) -> Result<(Statement, u32, &[Token]), Fault>
+) -> Result<(Boxed<Statement>, u32, &[Token]), Fault>
     requires { nesting ≤ 201 }
     ensures reads { Reads (spec.statement_at shallow depth (spec.statements shallow depth) at nesting (lexemes tokens.now)) result }
 {
@@ -424,7 +442,7 @@ fn statement(
     depth: usize,
     nesting: u32,
     tokens: &[Token],
-) -> Result<(Statement, &[Token]), Fault>
+) -> Result<(Boxed<Statement>, &[Token]), Fault>
     requires { nesting ≤ 200 }
     ensures reads { ReadsAt nesting ((spec.statements shallow depth).one nesting (lexemes tokens.now)) result }
 {
@@ -436,21 +454,6 @@ fn statement(
     Ok((statement, tokens))
 }
 
-/// A statement within another.
-#[cycle(statements)]
-fn inner(
-    alloc: Global,
-    depth: usize,
-    nesting: u32,
-    tokens: &[Token],
-) -> Result<(Boxed<Statement>, &[Token]), Fault>
-    requires { nesting ≤ 200 }
-    ensures reads { ReadsAt nesting ((spec.statements shallow depth).one nesting (lexemes tokens.now)) result }
-{
-    let (statement, tokens) = statement(alloc, depth, nesting, tokens)?;
-    Ok((Boxed::new(alloc, statement)?, tokens))
-}
-
 /// A statement or a declaration of a block.
 #[tactic(auto, unfolding(crate::specs::Statements::block_item))]
 #[cycle(statements)]
@@ -459,13 +462,14 @@ fn block_item(
     depth: usize,
     nesting: u32,
     tokens: &[Token],
-) -> Result<(Statement, &[Token]), Fault>
+) -> Result<(Boxed<Statement>, &[Token]), Fault>
     requires { nesting ≤ 200 }
     ensures reads { ReadsAt nesting (spec.block_item shallow depth (spec.statements shallow depth) nesting (lexemes tokens.now)) result }
 {
     if begins_declaration(peek(tokens)) {
         let (declaration, tokens) = declaration(alloc, depth, nesting, tokens)?;
-        return Ok((Statement::Declared(declaration), tokens));
+        let item = Boxed::new(alloc, Statement::Declared(declaration.into_inner()))?;
+        return Ok((item, tokens));
     }
     statement(alloc, depth, nesting, tokens)
 }
@@ -490,7 +494,7 @@ fn statements(
             return Ok((statements, behind));
         }
         let (item, behind) = block_item(alloc, depth, nesting, rest)?;
-        statements.push(item)?;
+        push(&mut statements, item)?;
         rest = behind;
     }
     Err(Fault::Out)

@@ -52,8 +52,5 @@ decreases-block_item l = 6 * l.depth + 1
 abbrev pub decreases-statements : goal.decreases-statements
 decreases-statements l = 6 * l.depth
 
-abbrev pub decreases-inner : goal.decreases-inner
-decreases-inner l = 6 * l.depth + 1
-
 abbrev pub decreases-statement_at : goal.decreases-statement_at
 decreases-statement_at l = 6 * l.depth + 4

@@ -2,7 +2,7 @@
 
 ghost use Rattle.std.specs.Prelude.{◌≡◌, IfOk, length};
 
-use crate::tree_of;
+use c_source::tree_of;
 use std::alloc::{AllocError, Global};
 use std::test::Fail;
 

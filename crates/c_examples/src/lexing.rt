@@ -1,6 +1,6 @@
 //! What the tokens of some sources are.
 
-use crate::lex;
+use c_lexer::lex;
 use c_tree::{At, CFault, Token, TokenKind};
 use std::test::Fail;
 use vp_io::Reason;

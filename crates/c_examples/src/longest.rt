@@ -1,4 +1,4 @@
-//! Sources of the greatest length.
+//! Long sources.
 
 ghost use Rattle.std.specs.Prelude.{◌≡◌, IfOk, length};
 
@@ -17,15 +17,18 @@ const FUNCTION: &[u8] = b"int f(int a,char c){
 }
 ";
 
+/// The length of a source of many functions.
+const LONG: usize = 65_536;
+
 /// As many functions as there is room for, and blanks behind them.
 fn functions(alloc: Global) -> Result<Vec<u8>, AllocError>
-    ensures { IfOk result (λ text. length text.items ≡ 1048576) }
+    ensures { IfOk result (λ text. length text.items ≡ 65536) }
 {
     let mut text = Vec::new(alloc);
-    for _ in 0..LONGEST / FUNCTION.len() {
+    for _ in 0..LONG / FUNCTION.len() {
         text.extend_from_slice(FUNCTION)?;
     }
-    text.resize(LONGEST, b' ')?;
+    text.resize(LONG, b' ')?;
     Ok(text)
 }
 
@@ -39,10 +42,10 @@ fn longest_blank_source_is_an_empty_program(rt: HostRuntime) -> Result<(), Fail>
 }
 
 #[test]
-fn longest_source_of_functions_has_a_tree(rt: HostRuntime) -> Result<(), Fail> {
+fn long_source_of_functions_has_a_tree(rt: HostRuntime) -> Result<(), Fail> {
     let alloc = rt.alloc();
     let text = functions(alloc)?;
     let tree = tree_of(alloc, &text)?;
-    assert_eq!(rt; tree.parts.len(), LONGEST / FUNCTION.len());
+    assert_eq!(rt; tree.parts.len(), LONG / FUNCTION.len());
     Ok(())
 }

@@ -1,8 +1,8 @@
 //! The places of tokens that a tree has.
 
 use crate::trees::tree_of;
-use c_tree::{At, CFault};
 use c_tree::syntax::{Declaration, External, Initialiser, Item, Parameter, Parameters};
+use c_tree::{At, CFault};
 use std::test::Fail;
 use vp_io::Reason;
 

@@ -2,8 +2,9 @@
 //! is printed as `<a>`, a statement within another as `[a;]`, and a number that isn't decimal with `#`.
 
 use c_tree::syntax::{
-    Arithmetic, AssignOperator, BinaryOperator, Declaration, Expr, External, Initialiser, Item, Parameter,
-    Parameters, Return, Size, Start, Statement, StepOperator, Syntax, TypeWords, UnaryOperator,
+    Arithmetic, AssignOperator, BinaryOperator, Declaration, Expr, External, Initialiser, Item,
+    Parameter, Parameters, Return, Size, Start, Statement, StepOperator, Syntax, TypeWords,
+    UnaryOperator,
 };
 use std::alloc::{AllocError, Global};
 

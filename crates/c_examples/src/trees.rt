@@ -180,7 +180,7 @@ int main(void)
 ";
 
 const LETTERS_TREE: &[u8] =
-    b"#int count[26];char line[16];int main(void){int c, n, i;(n = 0);while((<(c = getchar())> != EOF))[{switch(c){case '32':[case '10':[break;]]default:[if(((c >= '97') && (c <= '122')))[{(count[(c - '97')]++);if((n < 16))[(line[(n++)] = c);]}]]}}]for((i = 0);(i < 26);(i++))[if((count[i] > 1))[{putchar(('97' + i));putchar(('48' + (count[i] % 10)));}]]putchar('10');for((i = (n - 1));(i >= 0);(i--))[putchar(line[i]);]putchar('10');return n;}";
+    b"#int count[26];char line[16];int main(void){int c, n, i;(n = 0#);while((<(c = getchar())> != EOF))[{switch(c){case '32':[case '10':[break;]]default:[if(((c >= '97') && (c <= '122')))[{(count[(c - '97')]++);if((n < 16))[(line[(n++)] = c);]}]]}}]for((i = 0#);(i < 26);(i++))[if((count[i] > 1))[{putchar(('97' + i));putchar(('48' + (count[i] % 10)));}]]putchar('10');for((i = (n - 1));(i >= 0#);(i--))[putchar(line[i]);]putchar('10');return n;}";
 
 const PROGRAMS: [(&[u8], &[u8]); 14] = [
     (b"int main(void){return 1;}", b"int main(void){return 1;}"),
@@ -222,4 +222,3 @@ fn programs_have_trees(rt: HostRuntime) -> Result<(), Fail> {
     }
     Ok(())
 }
-

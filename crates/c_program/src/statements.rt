@@ -5,16 +5,14 @@
 ghost use Rattle.std.specs.Prelude.{◌≡◌, ◌≤◌, [], IfOk};
 ghost use Rattle.c_grammar.specs.Words.{lexemes};
 ghost use Rattle.c_reading.specs.Expressions.{read};
-ghost use Rattle.c_reading.specs.Statements as spec;
+ghost use Rattle.c_program.specs.Statements as spec;
 ghost use Rattle.c_reading.specs.Ahead.{Reads, ReadsAt, shallow};
 
 use crate::declarations::declaration;
-use crate::expressions::{conditional, expression};
-use crate::fault::Fault;
-use crate::nodes::{push, unboxed};
-use crate::tokens::{eat, expect, peek, place};
-use crate::trees::begins_declaration;
 use c_grammar::Sign;
+use c_reading::{
+    Fault, begins_declaration, conditional, eat, expect, expression, peek, place, push, unboxed,
+};
 use c_tree::syntax::{Expr, Start, Statement};
 use c_tree::{At, Token};
 use sqlite_items::{Boxed, Items};
@@ -138,7 +136,14 @@ fn for_header(
     depth: usize,
     nesting: u32,
     tokens: &[Token],
-) -> Result<((Boxed<Start>, Option<Boxed<Expr>>, Option<Boxed<Expr>>), u32, &[Token]), Fault>
+) -> Result<
+    (
+        (Boxed<Start>, Option<Boxed<Expr>>, Option<Boxed<Expr>>),
+        u32,
+        &[Token],
+    ),
+    Fault,
+>
     ensures reads { Reads (spec.for_header shallow depth nesting (lexemes tokens.now)) result }
     ensures few { IfOk result (λ x. x.1 ≤ 200) }
 {

@@ -2,15 +2,13 @@
 
 ghost use Rattle.std.specs.Prelude.{◌≡◌, ◌≤◌, ◌+◌, ◌*◌, [], length};
 ghost use Rattle.c_grammar.specs.Words.{lexemes};
-ghost use Rattle.c_reading.specs.Statements as spec;
+ghost use Rattle.c_program.specs.Statements as spec;
 ghost use Rattle.c_reading.specs.Ahead.{Answers, NotOut, ReadsAt, shallow};
 
 use crate::declarations::{Opening, open_declaration};
-use crate::fault::Fault;
-use crate::nodes::push;
 use crate::statements::block;
-use crate::tokens::{eat, expect, peek, place};
 use c_grammar::Sign;
+use c_reading::{Fault, eat, expect, peek, place, push};
 use c_tree::Token;
 use c_tree::syntax::{Declaration, External, Syntax};
 use sqlite_items::{Boxed, Items};

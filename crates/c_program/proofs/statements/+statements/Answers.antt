@@ -2,8 +2,8 @@
 use Rattle.std.proofs.Common.{◌≡◌, refl, sym, rules, arith}
 use Rattle.c_grammar.specs.Words.{lexemes}
 use Rattle.c_reading.specs.Ahead.{shallow}
-use Rattle.c_reading.proofs.Deeper.{one_deeper, rest_deeper}
-use Rattle.c_reading.proofs.statements.+statements.Goals as goal
+use Rattle.c_program.proofs.Deeper.{one_deeper, rest_deeper}
+use Rattle.c_program.proofs.statements.+statements.Goals as goal
 
 pub statement-returns-in_err-statement : goal.statement-returns-in_err-statement
 statement-returns-in_err-statement t c = rw (one_deeper shallow c.args.depth c.args.nesting (lexemes c.args.tokens.now) (omega arith)) (search rules)

@@ -1,8 +1,8 @@
 use Rattle.std.proofs.Common.{◌≡◌, [], ◌*◌, ◌+◌, ◌≤◌}
 use Rattle.c_grammar.specs.Words.{lexemes}
-use Rattle.c_reading.specs.Statements.{statements}
+use Rattle.c_program.specs.Statements.{statements}
 use Rattle.c_reading.specs.Ahead.{shallow}
-use Rattle.c_reading.proofs.statements.+statements.Given as goal
+use Rattle.c_program.proofs.statements.+statements.Given as goal
 
 abbrev pub invariant-statements-loop-depth : goal.invariant-statements-loop-depth
 invariant-statements-loop-depth l = record {

@@ -6,11 +6,11 @@ use Rattle.c_grammar.specs.Words.{lexemes}
 use Rattle.c_reading.specs.declared.fault.Fault.{Fault}
 use Rattle.c_reading.specs.declared.fault.Fault.TheVariants as fault
 use Rattle.c_reading.specs.Parsers.{Read}
-use Rattle.c_reading.specs.Statements.{program}
+use Rattle.c_program.specs.Statements.{program}
 use Rattle.c_reading.specs.Ahead.{Fails, NotOut, shallow}
 use Rattle.c_reading.proofs.Enough.{Sure}
-use Rattle.c_reading.proofs.EnoughPrograms.{program_sure}
-use Rattle.c_reading.proofs.program.read.Goals as goal
+use Rattle.c_program.proofs.EnoughPrograms.{program_sure}
+use Rattle.c_program.proofs.program.read.Goals as goal
 
 not_out : {A : Type 0} (B : Type 0) (b : ℕ) (r : Read A) → Sure b r → (e : Fault) → Fails r e → NotOut {A = B} (Err e)
 not_out B b r s fault.NoMemory h = tt

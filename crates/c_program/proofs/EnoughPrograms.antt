@@ -13,13 +13,13 @@ use Rattle.c_tree.specs.declared.syntax.External.{External}
 use Rattle.c_grammar.specs.declared.sign.Sign.{Sign}
 use Rattle.c_grammar.specs.declared.sign.Sign.TheVariants as sign
 use Rattle.c_grammar.specs.Words.{Lexeme}
-use Rattle.c_reading.specs.declared.declarations.Opening.{Opening}
-use Rattle.c_reading.specs.declared.declarations.Opening.TheVariants as opening_
+use Rattle.c_program.specs.declared.declarations.Opening.{Opening}
+use Rattle.c_program.specs.declared.declarations.Opening.TheVariants as opening_
 use Rattle.c_reading.specs.Parsers.{Parser, and_then, same, sign_at, eat, expect, name, name_if_any, more}
 use Rattle.c_reading.specs.Trees.{begins_declaration}
 use Rattle.c_reading.specs.Expressions.{expr, assign, conditional, type_words, read}
-use Rattle.c_reading.specs.Declarations.{given_size, size, value_end, next_value, listed, values, value_by, value, initialiser, object, next_object, next_item, items, objects, parameter, next_parameter, parameter_list, parameters_by, parameters, heading, typed_opening, opening_by, opening, declared, declaration}
-use Rattle.c_reading.specs.Statements.{Statements, condition, optional, do_end, case_label, started, start_by, start, for_header, block, else_by, else_branch, if_statement, while_statement, do_statement, for_statement, switch_statement, case_statement, default_statement, return_statement, break_statement, continue_statement, expression_statement, block_statement, statement_by, statement_at, block_item, statements_step, statements, part, external_by, external, parts, program}
+use Rattle.c_program.specs.Declarations.{given_size, size, value_end, next_value, listed, values, value_by, value, initialiser, object, next_object, next_item, items, objects, parameter, next_parameter, parameter_list, parameters_by, parameters, heading, typed_opening, opening_by, opening, declared, declaration}
+use Rattle.c_program.specs.Statements.{Statements, condition, optional, do_end, case_label, started, start_by, start, for_header, block, else_by, else_branch, if_statement, while_statement, do_statement, for_statement, switch_statement, case_statement, default_statement, return_statement, break_statement, continue_statement, expression_statement, block_statement, statement_by, statement_at, block_item, statements_step, statements, part, external_by, external, parts, program}
 use Rattle.c_reading.proofs.Enough.{Sure, sure_more, sure_then, sure_choice, eat_sure, eaten_sure, expect_sure, name_sure, name_if_any_sure, more_sure, type_sure, read_sure}
 
 module _ (T : ℕ → Bool) where

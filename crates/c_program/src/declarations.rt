@@ -5,14 +5,14 @@
 ghost use Rattle.std.specs.Prelude.{◌≡◌, ◌≤◌, []};
 ghost use Rattle.c_grammar.specs.Words.{lexemes};
 ghost use Rattle.c_reading.specs.Expressions.{read};
-ghost use Rattle.c_reading.specs.Declarations as spec;
+ghost use Rattle.c_program.specs.Declarations as spec;
 ghost use Rattle.c_reading.specs.Ahead.{ReadsAt, shallow};
 
-use crate::expressions::{assignment, conditional, type_words};
-use crate::fault::Fault;
-use crate::nodes::push;
-use crate::tokens::{eat, expect, more, name, name_if_any, peek, place};
 use c_grammar::Sign;
+use c_reading::{
+    Fault, assignment, conditional, eat, expect, more, name, name_if_any, peek, place, push,
+    type_words,
+};
 use c_tree::syntax::{
     Declaration, Expr, Identifier, Initialiser, Item, Parameter, Parameters, Return, Size,
     TypeWords,
@@ -142,7 +142,10 @@ fn value(
         }
         _ => {
             let (e, tokens) = assignment(alloc, depth, nesting, tokens)?;
-            Ok((Boxed::new(alloc, Initialiser::Value(e.into_inner()))?, tokens))
+            Ok((
+                Boxed::new(alloc, Initialiser::Value(e.into_inner()))?,
+                tokens,
+            ))
         }
     }
 }

@@ -4,13 +4,16 @@ ghost use Rattle.std.specs.Prelude.{◌≡◌};
 ghost use Rattle.c_tree.specs.declared.fault.CFault.TheVariants.{NoMemory};
 
 use std::alloc::{AllocError, AllocFailed};
+use thiserror::Error;
 use vp_io::Reason;
 
 /// Why a call of the front end gave nothing.
-#[derive(Debug, Drop)]
+#[derive(Debug, Drop, Error)]
 pub enum CFault {
+    #[error("out of memory")]
     NoMemory,
     /// The source breaks a rule.
+    #[error("line {}, column {}: rule {}", .0.line, .0.column, .0.rule)]
     Bad(Reason),
 }
 

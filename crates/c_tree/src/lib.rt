@@ -1,7 +1,8 @@
 //! The types of the C front end: tokens with their places, and the trees that are made of them.
 //!
-//! The crate promises nothing by itself: it has plain data, which the contracts of the lexer, the
-//! parser, the typing and the passes compare as a whole.
+//! It has plain data, which the contracts of the lexer, the parser, the typing and the passes compare
+//! as a whole, what each of them asks of a node, and the inductions over both trees that their proofs
+//! cite.
 #![tactic(auto)]
 
 mod fault;

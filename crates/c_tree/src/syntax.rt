@@ -1,5 +1,8 @@
 //! The syntax tree of a source (C11 6.5 to 6.9). A node has the place of its first token.
 
+ghost use Rattle.std.specs.Prelude.{◌≡◌};
+ghost use Rattle.c_tree.specs.Places.{place_of};
+
 use crate::token::At;
 use sqlite_items::{Boxed, Items};
 
@@ -26,10 +29,9 @@ pub enum BinaryOperator {
     Remainder,
 }
 
-/// An assignment operator (C11 6.5.16): plain, or with the operation that comes first.
+/// An operator that a compound assignment may have (C11 6.5.16.2).
 #[derive(Clone, Copy, PartialEq, Eq, Debug)]
-pub enum AssignOperator {
-    Plain,
+pub enum Arithmetic {
     Add,
     Subtract,
     Multiply,
@@ -40,6 +42,13 @@ pub enum AssignOperator {
     Or,
     ShiftLeft,
     ShiftRight,
+}
+
+/// An assignment operator (C11 6.5.16).
+#[derive(Clone, Copy, PartialEq, Eq, Debug)]
+pub enum AssignOperator {
+    Plain,
+    Compound(Arithmetic),
 }
 
 /// An operator before its operand (C11 6.5.3.3).
@@ -98,6 +107,31 @@ pub enum Expr {
     },
     Character(At, i32),
     Paren(At, Boxed<Expr>),
+}
+
+impl Expr {
+    /// The place of the expression's first token.
+    #[tactic(auto, unfolding(crate::specs::Places::place_of))]
+    pub fn place(&self) -> At
+        ensures { result ≡ place_of self.now }
+    {
+        match self {
+            Expr::Comma(at, ..) => *at,
+            Expr::Assign(at, ..) => *at,
+            Expr::Conditional(at, ..) => *at,
+            Expr::Binary(at, ..) => *at,
+            Expr::Cast(at, ..) => *at,
+            Expr::Unary(at, ..) => *at,
+            Expr::Before(at, ..) => *at,
+            Expr::After(at, ..) => *at,
+            Expr::Name(at, _) => *at,
+            Expr::Element(at, ..) => *at,
+            Expr::Call(at, ..) => *at,
+            Expr::Number { at, .. } => *at,
+            Expr::Character(at, _) => *at,
+            Expr::Paren(at, _) => *at,
+        }
+    }
 }
 
 /// What stands in the brackets of a declared name.

@@ -1,9 +1,18 @@
 //! The typed tree of a source: names are resolved, and conversions are nodes.
 //!
 //! An object is named by its kind and its number, a function by its number in the tree. A value in
-//! the tree is a word of the machine, with the sign of its type.
+//! the tree (of a constant, a case or an object's initialiser) is a number in 0..2^w-1 for a word of
+//! w bits: a char's value is extended by the sign of its type to the word first, so the signed char
+//! -1 is 65,535 where w is 16.
+//!
+//! A node has the place of its first token, and a statement that of its own. A cast is a conversion
+//! node also where its operand has its type, and a conversion that no cast asks for has the place of
+//! its operand. An act that C leaves undefined is told at the place of the node that does it.
 
-use crate::syntax::{BinaryOperator, StepOperator, UnaryOperator};
+ghost use Rattle.std.specs.Prelude.{◌≡◌};
+ghost use Rattle.c_tree.specs.Heads.{head_of, is_place};
+
+use crate::syntax::{Arithmetic, BinaryOperator, StepOperator, UnaryOperator};
 use crate::token::At;
 use crate::types::CType;
 use sqlite_items::{Boxed, Items};
@@ -48,9 +57,9 @@ pub enum Callee {
 /// What a compound assignment computes of the left side's value and the right value.
 #[derive(Clone, Copy, PartialEq, Eq, Debug)]
 pub enum Operation {
-    /// Neither a logical operator nor a relation. It computes in the type of the right value, which
-    /// is converted already, or where it shifts in the promoted type of the left side.
-    Operator(BinaryOperator),
+    /// It computes in the type of the right value, which is converted already, or where it shifts in
+    /// the promoted type of the left side.
+    Operator(Arithmetic),
     /// A call of the function with this number, with both values converted to its parameters'
     /// types.
     Helper(u32),
@@ -85,6 +94,39 @@ pub enum TypedExpr {
     Convert(Head, Boxed<TypedExpr>),
 }
 
+impl TypedExpr {
+    /// The type of the expression, and the place of its first token.
+    #[tactic(auto, unfolding(crate::specs::Heads::head_of))]
+    pub fn head(&self) -> Head
+        ensures { result ≡ head_of self.now }
+    {
+        match self {
+            TypedExpr::Comma(head, ..) => *head,
+            TypedExpr::Assign(head, ..) => *head,
+            TypedExpr::Compound(head, ..) => *head,
+            TypedExpr::Conditional(head, ..) => *head,
+            TypedExpr::Binary(head, ..) => *head,
+            TypedExpr::Unary(head, ..) => *head,
+            TypedExpr::Before(head, ..) => *head,
+            TypedExpr::After(head, ..) => *head,
+            TypedExpr::Constant(head, _) => *head,
+            TypedExpr::Object(head, _) => *head,
+            TypedExpr::Element(head, ..) => *head,
+            TypedExpr::Call(head, ..) => *head,
+            TypedExpr::Convert(head, _) => *head,
+        }
+    }
+
+    /// It designates an object or an element, so it may stand on the left of an assignment (C11
+    /// 6.3.2.1).
+    #[tactic(auto, unfolding(crate::specs::Heads::is_place))]
+    pub fn is_place(&self) -> bool
+        ensures { result ≡ is_place self.now }
+    {
+        matches!(self, TypedExpr::Object(..) | TypedExpr::Element(..))
+    }
+}
+
 /// The initialiser of a local object.
 #[derive(Drop)]
 pub enum LocalInit {
@@ -113,7 +155,7 @@ pub enum Start {
 /// A statement, or a declaration of local objects.
 #[derive(Drop)]
 pub enum Stat {
-    Block(At, Items<Stat>),
+    Block(At, Items<Boxed<Stat>>),
     /// A declaration of objects; that of a function leaves nothing in the tree.
     Declare(At, Items<Local>),
     /// An expression statement; without an expression the null statement.
@@ -122,7 +164,8 @@ pub enum Stat {
     While(At, TypedExpr, Boxed<Stat>),
     DoWhile(At, Boxed<Stat>, TypedExpr),
     For(At, Start, Option<TypedExpr>, Option<TypedExpr>, Boxed<Stat>),
-    Switch(At, TypedExpr, Items<Stat>),
+    /// The statements of a switch's block.
+    Switch(At, TypedExpr, Items<Boxed<Stat>>),
     /// A case, with its value converted to the type of the switch.
     Case(At, u32, Boxed<Stat>),
     Default(At, Boxed<Stat>),
@@ -138,7 +181,7 @@ pub struct Function {
     pub result: CType,
     pub params: Items<Object>,
     pub locals: Items<Object>,
-    pub body: Stat,
+    pub body: Boxed<Stat>,
     pub at: At,
 }
 

@@ -1,0 +1,3 @@
+pub mod ExprFolds
+pub mod StatementFolds
+pub mod TypedFolds

@@ -1,0 +1,4 @@
+pub mod Below
+pub mod Expressions
+pub mod Statements
+pub mod Runs

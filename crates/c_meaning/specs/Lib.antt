@@ -1,0 +1,6 @@
+pub mod Operators
+pub mod Parts
+pub mod Expressions
+pub mod Statements
+pub mod Run
+pub mod Laws

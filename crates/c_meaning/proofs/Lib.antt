@@ -2,3 +2,4 @@ pub mod Below
 pub mod Expressions
 pub mod Statements
 pub mod Runs
+pub mod WorkedRuns

@@ -1,0 +1,5 @@
+//! How much a source asks of a machine: frames, weights, statics, and the limits on them.
+#![tactic(auto)]
+
+mod depth;
+mod weight;

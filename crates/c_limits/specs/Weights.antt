@@ -1,5 +1,5 @@
 -- What expressions, statements and functions weigh: no fewer than the transfers of their plain code.
-use Rattle.std.specs.Prelude.{ℕ, ◌+◌, ◌*◌, List, [], ◌∷◌, length, map, sum, Option, Some, None, nat_lt, if◌then◌else◌, slice_get}
+use Rattle.std.specs.Prelude.{ℕ, ◌+◌, ◌*◌, List, [], ◌∷◌, length, map, Option, Some, None, nat_lt, if◌then◌else◌, slice_get}
 use Rattle.c_tree.specs.declared.types.CType.{CType}
 use Rattle.c_tree.specs.declared.types.CType.TheVariants as type
 use Rattle.c_tree.specs.declared.syntax.Arithmetic.{Arithmetic}
@@ -28,7 +28,7 @@ use Rattle.c_tree.specs.declared.typed.Function.{Function}
 use Rattle.c_limits.specs.declared.weight.Place.{Place}
 use Rattle.c_limits.specs.declared.weight.Place.TheVariants as place
 use Rattle.c_limits.specs.declared.weight.Weight.{Weight}
-use Rattle.c_limits.specs.Sums.{capped, or_0}
+use Rattle.c_limits.specs.Sums.{or_0, total}
 
 -- ---- places
 
@@ -151,7 +151,8 @@ module _ (locals : List Object) where
   local_weight l = init_weight (length_of (slice_get locals l.number)) l.init
 
   abbrev pub locals_weight : List Local → ℕ
-  locals_weight ls = sum (map local_weight ls)
+  locals_weight [] = 0
+  locals_weight (l ∷ ls) = local_weight l + locals_weight ls
 
   abbrev pub start_weight : Start → ℕ
   start_weight start.Absent = 0
@@ -159,14 +160,14 @@ module _ (locals : List Object) where
   start_weight (start.Declared at ls) = locals_weight ls
 
   abbrev pub statement_weight : stat.Stat-F ℕ → ℕ
-  statement_weight (stat.Block at ss) = sum ss
+  statement_weight (stat.Block at ss) = total ss
   statement_weight (stat.Declare at ls) = locals_weight ls
   statement_weight (stat.Evaluate at e) = 1 + option_weight e
   statement_weight (stat.If at e a b) = 8 + expr_weight e + a + or_0 b
   statement_weight (stat.While at e a) = 10 + expr_weight e + a
   statement_weight (stat.DoWhile at a e) = 10 + a + expr_weight e
   statement_weight (stat.For at first test step a) = 10 + start_weight first + option_weight test + option_weight step + a
-  statement_weight (stat.Switch at e ss) = 6 + expr_weight e + sum ss
+  statement_weight (stat.Switch at e ss) = 6 + expr_weight e + total ss
   -- 4 of the switch for each of its cases
   statement_weight (stat.Case at v a) = 4 + a
   statement_weight (stat.Default at a) = a
@@ -176,6 +177,13 @@ module _ (locals : List Object) where
 
   abbrev pub stat_weight : Stat → ℕ
   stat_weight = fold-Stat ℕ statement_weight
+
+  abbrev pub block_weight : List Stat → ℕ
+  block_weight ss = total (map stat_weight ss)
+
+  abbrev pub else_weight : Option Stat → ℕ
+  else_weight None = 0
+  else_weight (Some s) = stat_weight s
 
 -- 16 of the 48 are for the passes
 abbrev pub function_weight : Function → ℕ

@@ -3,3 +3,5 @@
 
 mod depth;
 mod weight;
+
+pub use weight::weight_of;

@@ -109,7 +109,7 @@ in_statement f (stat.If at e a b) = max (f e) (max a (or_0 b))
 in_statement f (stat.While at e a) = max (f e) a
 in_statement f (stat.DoWhile at a e) = max (f e) a
 in_statement f (stat.For at first test step a) = max (max (in_start f first) (in_option f test)) (max (in_option f step) a)
-in_statement f (stat.Switch at e ss) = max (f e) (greatest ss)
+in_statement f (stat.Switch at e ss) = max (greatest ss) (f e)
 in_statement f (stat.Case at v a) = a
 in_statement f (stat.Default at a) = a
 in_statement f (stat.Break at) = 0
@@ -118,3 +118,10 @@ in_statement f (stat.Return at e) = in_option f e
 
 abbrev pub greatest_in : (TypedExpr → ℕ) → Stat → ℕ
 greatest_in f = fold-Stat ℕ (in_statement f)
+
+abbrev pub in_block : (TypedExpr → ℕ) → List Stat → ℕ
+in_block f ss = greatest (map (greatest_in f) ss)
+
+abbrev pub in_else : (TypedExpr → ℕ) → Option Stat → ℕ
+in_else f None = 0
+in_else f (Some s) = greatest_in f s

@@ -2,3 +2,4 @@ pub mod Sums
 pub mod Weights
 pub mod Capped
 pub mod Depths
+pub mod Frames

@@ -2,6 +2,8 @@
 #![tactic(auto)]
 
 mod depth;
+mod frame;
 mod weight;
 
+pub use frame::frame_of;
 pub use weight::weight_of;

@@ -54,4 +54,3 @@ Stands r (x ∷ xs) = (r ≡ x) ⊎ Stands r xs
 pub record IsFirst (rs : List Reason) (r : Reason) : Type 0 where
   pub stands : Stands r rs
   pub first : (x : Reason) → Stands x rs → comes_before x r ≡ false
-

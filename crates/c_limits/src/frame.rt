@@ -85,7 +85,12 @@ pub fn frame_of<W: Word>(f: &Function) -> u64
 {
     let needs = in_stat(f.body.get());
     let homes = (f.params.len() as u64).saturating_add(scalars(f.locals.as_slice()) as u64);
-    let words = (needs.arguments as u64).max(2).saturating_add(homes).saturating_add(21);
-    let scalar_bytes = words.saturating_add(needs.depth).saturating_mul(word_bytes::<W>());
+    let words = (needs.arguments as u64)
+        .max(2)
+        .saturating_add(homes)
+        .saturating_add(21);
+    let scalar_bytes = words
+        .saturating_add(needs.depth)
+        .saturating_mul(word_bytes::<W>());
     scalar_bytes.saturating_add(arrays::<W>(f.locals.as_slice()))
 }

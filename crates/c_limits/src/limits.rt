@@ -13,15 +13,16 @@ use rtl_word::Word;
 use vp_io::Reason;
 
 const MOST_FRAME: u64 = 32_000;
+
 const MOST_WEIGHT: u64 = 12_000;
+
 const MOST_STATICS: usize = 60_000;
 
 fn comes_before(a: Reason, b: Reason) -> bool
     ensures { result ≡ comes_before a b }
 {
     a.line < b.line
-        || a.line == b.line
-            && (a.column < b.column || a.column == b.column && a.rule < b.rule)
+        || a.line == b.line && (a.column < b.column || a.column == b.column && a.rule < b.rule)
 }
 
 fn noted(first: Option<Reason>, next: Reason) -> Option<Reason>

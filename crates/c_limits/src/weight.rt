@@ -181,7 +181,11 @@ fn weigh(e: &TypedExpr) -> Weight
         TypedExpr::Element(_, _, i) => named(Place::Element, weigh(i.get()).total),
         TypedExpr::Assign(_, a, b) => {
             let left = weigh(a.get());
-            value(plus(assigned_weight(left.place), left.inside, weigh(b.get()).total))
+            value(plus(
+                assigned_weight(left.place),
+                left.inside,
+                weigh(b.get()).total,
+            ))
         }
         TypedExpr::Compound(_, a, o, b) => {
             let left = changed(weigh(a.get()), operation_weight(*o));
@@ -190,13 +194,19 @@ fn weigh(e: &TypedExpr) -> Weight
         TypedExpr::Before(_, _, a) => value(changed(weigh(a.get()), 2)),
         TypedExpr::After(_, a, _) => value(changed(weigh(a.get()), 2)),
         TypedExpr::Binary(_, a, o, b) => {
-            value(plus(binary_weight(*o), weigh(a.get()).total, weigh(b.get()).total))
+            value(plus(
+                binary_weight(*o),
+                weigh(a.get()).total,
+                weigh(b.get()).total,
+            ))
         }
         TypedExpr::Unary(_, o, a) => value(unary_weight(*o).saturating_add(weigh(a.get()).total)),
         TypedExpr::Convert(h, a) => {
             value(conversion_weight(h.of).saturating_add(weigh(a.get()).total))
         }
-        TypedExpr::Comma(_, a, b) => value(weigh(a.get()).total.saturating_add(weigh(b.get()).total)),
+        TypedExpr::Comma(_, a, b) => value(
+            weigh(a.get()).total.saturating_add(weigh(b.get()).total),
+        ),
         TypedExpr::Conditional(_, a, b, c) => {
             let branches = weigh(b.get()).total.saturating_add(weigh(c.get()).total);
             value(plus(8, weigh(a.get()).total, branches))
@@ -300,7 +310,11 @@ fn stat_weight(locals: &[Object], s: &Stat) -> u64
         Stat::While(_, e, a) => plus(10, weigh(e).total, stat_weight(locals, a.get())),
         Stat::DoWhile(_, a, e) => plus(10, stat_weight(locals, a.get()), weigh(e).total),
         Stat::For(_, first, test, step, a) => {
-            let head = plus(start_weight(locals, first), option_weight(test), option_weight(step));
+            let head = plus(
+                start_weight(locals, first),
+                option_weight(test),
+                option_weight(step),
+            );
             plus(10, head, stat_weight(locals, a.get()))
         }
         Stat::Switch(_, e, ss) => plus(6, weigh(e).total, block_weight(locals, ss.as_slice())),

@@ -5,24 +5,20 @@ ghost use Rattle.c_meaning.specs.Laws.{EndsStand, FailuresStand, OutputGrows, So
 /// What ended within a bound ends alike within each greater one.
 pub fn ends_stand()
     ensures { EndsStand }
-{
-}
+{}
 
 /// What failed within a bound, by an undefined act or over its stack, fails alike within each
 /// greater one.
 pub fn failures_stand()
     ensures { FailuresStand }
-{
-}
+{}
 
 /// What is printed within a bound is the beginning of what is printed within each greater one.
 pub fn output_grows()
     ensures { OutputGrows }
-{
-}
+{}
 
 /// A source is a run in the sense of all that is said of runs.
 pub fn source_is_run()
     ensures { SourceIsRun }
-{
-}
+{}

@@ -1,7 +1,7 @@
 -- A greater bound shows more output, or the stop that was seen already.
 use Rattle.std.proofs.Common.{◌≡◌, ℕ, zero, suc, ◌+◌, ◌≤◌, List, [], Option, Some, None, Bool, true, false, if◌then◌else◌, nat_lt, slice_get, refl, sym, ap, subst, arith}
 use Rattle.behaviour.specs.Behaviour.{IsPrefix, output, IsExtendedBy}
-use Rattle.behaviour.proofs.Growth.{end_stands, failure_stands}
+use Rattle.behaviour.proofs.Growth.{end_stands, failure_stands, ended_never_fails}
 use Rattle.behaviour.proofs.Growth as growth
 use Rattle.c_tree.specs.declared.token.At.{At}
 use Rattle.c_tree.specs.declared.typed.Function.{Function}
@@ -9,7 +9,7 @@ use Rattle.c_tree.specs.declared.typed.Typed.{Typed}
 use Rattle.c_meaning.specs.Parts.{Setting, Part, Gives, Cut, Fails, Value}
 use Rattle.c_meaning.specs.Statements.{Does, execution}
 use Rattle.c_meaning.specs.Run.{enter, inside, world, taken, call_at, seen, at_start, begin, main_in, source_run}
-use Rattle.c_meaning.specs.Laws.{EndsStand, FailuresStand, OutputGrows, SourceIsRun}
+use Rattle.c_meaning.specs.Laws.{EndsStand, FailuresStand, OutputGrows, SourceIsRun, EndedIsClean}
 use Rattle.c_meaning.proofs.Below.{Below, All_below, out_of, same, cut_below, then_below}
 use Rattle.c_meaning.proofs.Statements.{execution_below}
 
@@ -53,3 +53,6 @@ failures_stand m t input n k le out why = failure_stands _ (source_is_run m t in
 
 pub output_grows : OutputGrows
 output_grows m t input n k le = growth.output_grows _ (source_is_run m t input) n k le
+
+pub ended_is_clean : EndedIsClean
+ended_is_clean m t input n out status = ended_never_fails _ (source_is_run m t input) n out status

@@ -4,7 +4,7 @@ use Rattle.behaviour.specs.Behaviour.{Ended, Failed, output, IsPrefix, Wrong}
 use Rattle.behaviour.specs.Run.{IsRun}
 use Rattle.c_tree.specs.declared.typed.Typed.{Typed}
 use Rattle.c_meaning.specs.Parts.{Setting}
-use Rattle.c_meaning.specs.Run.{source_run}
+use Rattle.c_meaning.specs.Run.{source_run, IsClean}
 
 abbrev pub EndsStand : Type 0
 EndsStand =
@@ -23,3 +23,8 @@ OutputGrows =
 
 abbrev pub SourceIsRun : Type 0
 SourceIsRun = (m : Setting) (t : Typed) (input : List ℕ) → IsRun (source_run m t input)
+
+abbrev pub EndedIsClean : Type 0
+EndedIsClean =
+    (m : Setting) (t : Typed) (input : List ℕ) (n : ℕ) (out : List ℕ) (status : ℕ)
+    → source_run m t input n ≡ Ended out status → IsClean m t input

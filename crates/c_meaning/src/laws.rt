@@ -1,6 +1,6 @@
 //! What a greater bound shows. The functions do nothing: each promises a law.
 
-ghost use Rattle.c_meaning.specs.Laws.{EndsStand, FailuresStand, OutputGrows, SourceIsRun};
+ghost use Rattle.c_meaning.specs.Laws.{EndedIsClean, EndsStand, FailuresStand, OutputGrows, SourceIsRun};
 
 /// What ended within a bound ends alike within each greater one.
 pub fn ends_stand()
@@ -21,4 +21,9 @@ pub fn output_grows()
 /// A source is a run in the sense of all that is said of runs.
 pub fn source_is_run()
     ensures { SourceIsRun }
+{}
+
+/// A source that ends does nothing undefined, and its stack suffices.
+pub fn ended_is_clean()
+    ensures { EndedIsClean }
 {}

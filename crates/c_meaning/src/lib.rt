@@ -12,5 +12,5 @@
 mod laws;
 mod worked;
 
-pub use laws::{ends_stand, failures_stand, output_grows, source_is_run};
+pub use laws::{ended_is_clean, ends_stand, failures_stand, output_grows, source_is_run};
 pub use worked::{call_acts, conversions, loops, object_acts, operator_acts, orders};

@@ -1,0 +1,5 @@
+//! The front end of C by example.
+#![tactic(auto)]
+
+#[cfg(test)]
+mod limits;

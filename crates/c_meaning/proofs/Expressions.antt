@@ -4,7 +4,6 @@ use Rattle.c_tree.specs.declared.token.At.{At}
 use Rattle.c_tree.specs.declared.types.CType.{CType}
 use Rattle.c_tree.specs.declared.syntax.UnaryOperator.{UnaryOperator}
 use Rattle.c_tree.specs.declared.syntax.StepOperator.{StepOperator}
-use Rattle.c_tree.specs.declared.typed.Variable.{Variable}
 use Rattle.c_tree.specs.declared.typed.Head.{Head}
 use Rattle.c_tree.specs.declared.typed.Callee.{Callee}
 use Rattle.c_tree.specs.declared.typed.Callee.TheVariants as callee

@@ -7,8 +7,8 @@ use Rattle.c_tree.specs.declared.token.At.{At}
 use Rattle.c_tree.specs.declared.typed.Function.{Function}
 use Rattle.c_tree.specs.declared.typed.Typed.{Typed}
 use Rattle.c_meaning.specs.Parts.{Setting, Part, Gives, Cut, Fails, Value}
-use Rattle.c_meaning.specs.Statements.{Does, execution}
-use Rattle.c_meaning.specs.Run.{enter, inside, world, taken, call_at, seen, at_start, begin, main_in, source_run}
+use Rattle.c_meaning.specs.Statements.{Does}
+use Rattle.c_meaning.specs.Run.{enter, inside, world, taken, call_at, seen, at_start, begin, main_in}
 use Rattle.c_meaning.specs.Laws.{EndsStand, FailuresStand, OutputGrows, SourceIsRun, EndedIsClean}
 use Rattle.c_meaning.proofs.Below.{Below, All_below, out_of, same, cut_below, then_below}
 use Rattle.c_meaning.proofs.Statements.{execution_below}

@@ -3,7 +3,6 @@ use Rattle.std.specs.Prelude.{ℕ, zero, suc, ◌%◌, ◌^◌, ◌-◌, List, [
 use Rattle.c_tree.specs.declared.token.At.{At}
 use Rattle.c_tree.specs.declared.types.CType.{CType}
 use Rattle.c_tree.specs.declared.types.CType.TheVariants as type
-use Rattle.c_tree.specs.declared.syntax.Arithmetic.{Arithmetic}
 use Rattle.c_tree.specs.declared.typed.Variable.{Variable}
 use Rattle.c_tree.specs.declared.typed.Head.{Head}
 use Rattle.c_tree.specs.declared.typed.Callee.{Callee}
@@ -13,7 +12,7 @@ use Rattle.c_tree.specs.declared.typed.Operation.TheVariants as operation
 use Rattle.c_tree.specs.declared.typed.TypedExpr.{TypedExpr}
 use Rattle.c_tree.specs.declared.typed.TypedExpr.TheOpen.{TypedExpr-F, Comma, Assign, Compound, Conditional, Binary, Unary, Before, After, Constant, Object, Element, Call, Convert}
 use Rattle.c_tree.specs.declared.typed.TypedExpr.TheFolds.{fold-TypedExpr}
-use Rattle.c_meaning.specs.Operators.{Outcome, as_type, calculate, Sort, computes, compares, logical, sort_of, compare, apply, step_by, computed_in}
+use Rattle.c_meaning.specs.Operators.{as_type, calculate, Sort, computes, compares, logical, sort_of, compare, apply, step_by, computed_in}
 use Rattle.c_meaning.specs.Parts.{State, Part, Gives, then_do, give, act, nothing_meant, outcome, Value, word, demand, load, store, with_input}
 
 -- what a name stands for

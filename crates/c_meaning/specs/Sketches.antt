@@ -14,7 +14,6 @@ use Rattle.c_tree.specs.declared.typed.Callee.{Callee}
 use Rattle.c_tree.specs.declared.typed.Operation.TheVariants as operation
 use Rattle.c_tree.specs.declared.typed.LocalInit.{LocalInit}
 use Rattle.c_tree.specs.declared.typed.Start.TheVariants as start
-use Rattle.c_tree.specs.declared.typed.Local.{Local}
 use Rattle.c_tree.specs.declared.typed.TypedExpr.{TypedExpr}
 use Rattle.c_tree.specs.declared.typed.TypedExpr.TheOpen as expr
 use Rattle.c_tree.specs.declared.typed.TypedExpr.TheViews.{roll-TypedExpr}

@@ -3,12 +3,10 @@ use Rattle.std.specs.Prelude.{◌≡◌, ℕ, ◌+◌, List, [], ◌∷◌, Some
 use Rattle.c_tree.specs.declared.types.CType.TheVariants as type
 use Rattle.c_tree.specs.declared.syntax.BinaryOperator.TheVariants.{LogicalAnd, LogicalOr, NotEqual, Less, ShiftLeft, ShiftRight, Add, Subtract, Multiply, Divide}
 use Rattle.c_tree.specs.declared.syntax.Arithmetic.TheVariants as arithmetic
-use Rattle.c_tree.specs.declared.syntax.UnaryOperator.TheVariants.{Minus}
 use Rattle.c_tree.specs.declared.syntax.StepOperator.TheVariants.{Increment}
 use Rattle.c_tree.specs.declared.typed.Callee.TheVariants.{Defined, Getchar, Putchar}
 use Rattle.c_tree.specs.declared.typed.LocalInit.TheVariants as init
 use Rattle.c_tree.specs.declared.typed.Object.{Object}
-use Rattle.c_tree.specs.declared.typed.Function.{Function}
 use Rattle.c_tree.specs.declared.typed.TypedExpr.{TypedExpr}
 use Rattle.c_tree.specs.declared.typed.Stat.{Stat}
 use Rattle.c_tree.specs.declared.typed.Typed.{Typed}

@@ -4,7 +4,6 @@ use c_limits::{frame_of, weight_of, within};
 use c_tree::syntax::BinaryOperator;
 use c_tree::typed::{Callee, Head, Variable};
 use c_tree::{At, CType, Function, Object, Stat, Static, Typed, TypedExpr};
-use md_rows::Layout;
 use rtl_word::{W16, W32};
 use sqlite_items::{Boxed, Items};
 use std::alloc::{AllocError, Global};
@@ -12,18 +11,6 @@ use std::test::Fail;
 use vp_io::Reason;
 
 const NAME: At = At { line: 1, column: 5 };
-
-const PDP11: Layout = Layout {
-    memory: 57_344,
-    base: 1_024,
-    stack: 16_384,
-};
-
-const MIPS: Layout = Layout {
-    memory: 4_194_304,
-    base: 4_096,
-    stack: 1_048_576,
-};
 
 fn head(of: CType) -> Head {
     Head { of, at: NAME }
@@ -205,14 +192,14 @@ fn frames_and_weights(rt: HostRuntime) {
 fn told_on_pdp11(t: Result<Typed, AllocError>) -> u8 {
     match t {
         Err(_) => 255,
-        Ok(t) => rule_in(within::<W16>(&t, &PDP11)),
+        Ok(t) => rule_in(within::<W16>(&t, 57_344, 1_024, 16_384)),
     }
 }
 
 fn told_on_mips(t: Result<Typed, AllocError>) -> u8 {
     match t {
         Err(_) => 255,
-        Ok(t) => rule_in(within::<W32>(&t, &MIPS)),
+        Ok(t) => rule_in(within::<W32>(&t, 4_194_304, 4_096, 1_048_576)),
     }
 }
 

@@ -5,11 +5,10 @@ use Rattle.c_tree.specs.declared.token.At.{At}
 use Rattle.c_tree.specs.declared.typed.Static.{Static}
 use Rattle.c_tree.specs.declared.typed.Function.{Function}
 use Rattle.c_tree.specs.declared.typed.Typed.{Typed}
-use Rattle.md_rows.specs.declared.description.Layout.{Layout}
 use Rattle.c_limits.specs.Sums.{capped}
 use Rattle.c_limits.specs.Weights.{function_weight}
 use Rattle.c_limits.specs.Frames.{object_bytes, frame_bytes}
-use Rattle.c_limits.specs.Limits.{told_if, most_weight, function_faults, static_faults, room_of, limit_faults}
+use Rattle.c_limits.specs.Limits.{told_if, most_weight, function_faults, static_faults, limit_faults}
 use Rattle.c_limits.specs.First.{first_of}
 use Rattle.c_limits.proofs.Sums.{above_capped, capped_twice}
 use Rattle.c_limits.proofs.Earliest.{first_of-append}
@@ -104,11 +103,11 @@ after_static w room small s i xs x o o1 b size sum whole lt is ez es e k inv =
     ∙ (static_more w room small i s x rest o sum (es ∙ ap (λ z. capped (s + z)) ez)
     ∙ (ap (λ l. first_of o (static_faults w room i s l)) (sym (drop_at xs i x lt is)) ∙ inv))
 
-pub judged : (w room : ℕ) (t : Typed) (l : Layout) (fs : List Function) (xs : List Static) (first result : Option Reason)
-    → room ≡ room_of l → fs ≡ t.functions → xs ≡ t.statics → first ≡ first_of None (function_faults w 0 fs) → result ≡ first_of first (static_faults w room 0 0 xs)
-    → first_of None (limit_faults w l t) ≡ result
-judged w room t l fs xs first result er ef ex e1 e2 =
-    first_of-append (function_faults w 0 t.functions) (static_faults w (room_of l) 0 0 t.statics) None
+pub judged : (w room known : ℕ) (t : Typed) (fs : List Function) (xs : List Static) (first result : Option Reason)
+    → room ≡ known → fs ≡ t.functions → xs ≡ t.statics → first ≡ first_of None (function_faults w 0 fs) → result ≡ first_of first (static_faults w room 0 0 xs)
+    → first_of None (limit_faults w known t) ≡ result
+judged w room known t fs xs first result er ef ex e1 e2 =
+    first_of-append (function_faults w 0 t.functions) (static_faults w known 0 0 t.statics) None
     ∙ sym (e2 ∙ (ap (λ y. first_of y (static_faults w room 0 0 xs)) (e1 ∙ ap (λ gs. first_of None (function_faults w 0 gs)) ef)
     ∙ (ap (λ ys. first_of (first_of None (function_faults w 0 t.functions)) (static_faults w room 0 0 ys)) ex
     ∙ ap (λ r. first_of (first_of None (function_faults w 0 t.functions)) (static_faults w r 0 0 t.statics)) er)))

@@ -1,7 +1,6 @@
 -- The limits on a source, and which of them is told where it passes some.
 use Rattle.std.specs.Prelude.{ℕ, ◌≡◌, ◌⊎◌, ◌+◌, ◌-◌, ◌==◌, ◌&&◌, ◌||◌, nat_lt, Bool, true, false, List, [], ◌∷◌, ◌++◌, if◌then◌else◌}
 use Rattle.vp_io.specs.declared.answers.Reason.{Reason}
-use Rattle.md_rows.specs.declared.description.Layout.{Layout}
 use Rattle.c_tree.specs.declared.token.At.{At}
 use Rattle.c_tree.specs.declared.typed.Static.{Static}
 use Rattle.c_tree.specs.declared.typed.Function.{Function}
@@ -36,11 +35,9 @@ static_faults w room count before (x ∷ xs) =
     told_if (nat_lt room (before + object_bytes w x.object) || nat_lt 60000 (count + 1)) 43 x.object.at
     (static_faults w room (count + 1) (before + object_bytes w x.object) xs)
 
-abbrev pub room_of : Layout → ℕ
-room_of l = l.memory - l.stack - l.base
-
-abbrev pub limit_faults : ℕ → Layout → Typed → List Reason
-limit_faults w l t = function_faults w 0 t.functions ++ static_faults w (room_of l) 0 0 t.statics
+-- where the statics have so many bytes of room
+abbrev pub limit_faults : ℕ → ℕ → Typed → List Reason
+limit_faults w room t = function_faults w 0 t.functions ++ static_faults w room 0 0 t.statics
 
 -- the earlier place, and at one place the lesser rule
 abbrev pub comes_before : Reason → Reason → Bool

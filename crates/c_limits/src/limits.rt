@@ -3,12 +3,11 @@
 ghost use Rattle.std.specs.Prelude.{◌≡◌, ◌+◌, ◌<◌, ◌-◌, ◌^◌, ◌||◌, [], IfErr, None, OnOk, nat_lt};
 ghost use Rattle.c_limits.specs.Frames.{frame_bytes};
 ghost use Rattle.c_limits.specs.First.{first_of, note};
-ghost use Rattle.c_limits.specs.Limits.{IsFirst, comes_before, function_faults, limit_faults, most_weight, reason_at, room_of, static_faults, told_if};
+ghost use Rattle.c_limits.specs.Limits.{IsFirst, comes_before, function_faults, limit_faults, most_weight, reason_at, static_faults, told_if};
 
 use crate::frame::{frame_of, object_bytes};
 use crate::weight::weight_of;
 use c_tree::{At, Function, Static, Typed};
-use md_rows::Layout;
 use rtl_word::Word;
 use vp_io::Reason;
 
@@ -110,14 +109,15 @@ fn first_in_statics<W: Word>(first: Option<Reason>, room: u64, statics: &[Static
     first
 }
 
-/// Whether a source is within the limits on frames, weights and statics (rules 41 to 43); else the
-/// first place where one is passed, and there the first rule.
-pub fn within<W: Word>(t: &Typed, l: &Layout) -> Result<(), Reason>
-    requires { l.now.base + l.now.stack < l.now.memory }
-    ensures within { OnOk result (limit_faults W.BITS l.now t.now ≡ []) }
-    ensures refused { IfErr result (λ r. IsFirst (limit_faults W.BITS l.now t.now) r) }
+/// Whether a source is within the limits on frames, weights and statics (rules 41 to 43), where memory
+/// has so many bytes, data begin at `base`, and so many bytes at memory's end are the stack's; else the
+/// first place where a limit is passed, and there the first rule.
+pub fn within<W: Word>(t: &Typed, memory: u32, base: u32, stack: u32) -> Result<(), Reason>
+    requires { base + stack < memory }
+    ensures within { OnOk result (limit_faults W.BITS (memory - stack - base) t.now ≡ []) }
+    ensures refused { IfErr result (λ r. IsFirst (limit_faults W.BITS (memory - stack - base) t.now) r) }
 {
-    let room = u64::from(l.memory - l.stack - l.base);
+    let room = u64::from(memory - stack - base);
     let first = first_in_functions::<W>(t.functions.as_slice());
     match first_in_statics::<W>(first, room, t.statics.as_slice()) {
         None => Ok(()),

@@ -1,8 +1,11 @@
-//! The front end of C by example: the tokens, the tree or the refusal of sources, each worked out by hand.
+//! The front end of C by example: the tokens, the tree or the refusal of sources, and the sizes of typed trees, each worked out by
+//! hand.
 #![tactic(auto)]
 
 #[cfg(test)]
 mod lexing;
+#[cfg(test)]
+mod limits;
 #[cfg(test)]
 mod longest;
 #[cfg(test)]

@@ -1,0 +1,5 @@
+pub mod Below
+pub mod Expressions
+pub mod Statements
+pub mod Runs
+pub mod WorkedRuns

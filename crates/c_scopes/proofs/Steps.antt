@@ -110,11 +110,11 @@ and_assoc true b c = refl
 and_assoc false b c = refl
 
 -- the type at an index, and those from it on
-typed_at : (t : CType) (rest : List CType) (n : ℕ) (ts : List CType) → (is_type t (slice_get ts n) && same_types rest (drop (suc n) ts)) ≡ same_types (t ∷ rest) (drop n ts)
-typed_at t rest zero [] = refl
-typed_at t rest (suc n) [] = refl
-typed_at t rest zero (u ∷ ts) = refl
-typed_at t rest (suc n) (u ∷ ts) = typed_at t rest n ts
+typed_at : (t : CType) (us : List CType) (n : ℕ) (ts : List CType) → (is_type t (slice_get ts n) && same_types us (drop (suc n) ts)) ≡ same_types (t ∷ us) (drop n ts)
+typed_at t us zero [] = refl
+typed_at t us (suc n) [] = refl
+typed_at t us zero (u ∷ ts) = refl
+typed_at t us (suc n) (u ∷ ts) = typed_at t us n ts
 
 pub types_step : (f : Parameter → CType) (d : List Parameter) (p : Parameter) (rest : List Parameter) → d ≡ p ∷ rest → (ts : List CType) (i : ℕ) (old new x whole : Bool)
     → (old && same_types (map f d) (drop i ts)) ≡ whole → x ≡ is_type (f p) (slice_get ts i) → new ≡ (old && x) → (new && same_types (map f rest) (drop (i + 1) ts)) ≡ whole

@@ -1,0 +1,4 @@
+pub mod First
+pub mod Trees
+pub mod Walks
+pub mod Programs

@@ -20,9 +20,9 @@ use Rattle.c_tree.specs.declared.syntax.Syntax.{Syntax}
 use Rattle.c_tree.specs.declared.syntax.Return.TheVariants as gives
 use Rattle.c_tree.specs.declared.syntax.Parameters.{Parameters}
 use Rattle.c_tree.specs.declared.syntax.Declaration.TheVariants as declaration
-use Rattle.c_program.specs.Declarations as d
-use Rattle.c_program.specs.declared.declarations.Opening.{Opening}
-use Rattle.c_program.specs.declared.declarations.Opening.TheVariants as opening_
+use Rattle.c_declarations.specs.Declarations as d
+use Rattle.c_declarations.specs.declared.declarations.Opening.{Opening}
+use Rattle.c_declarations.specs.declared.declarations.Opening.TheVariants as opening_
 use Rattle.c_tree.specs.declared.syntax.Start.{Start}
 use Rattle.c_tree.specs.declared.syntax.Start.TheVariants as start
 use Rattle.c_tree.specs.declared.syntax.Statement.{Statement}

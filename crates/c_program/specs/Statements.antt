@@ -16,9 +16,9 @@ use Rattle.c_grammar.specs.Words.{Lexeme}
 use Rattle.c_reading.specs.Parsers.{Parser, Read, same, ◌>>=◌, ◌>>◌, pure, out, peek, place, phrase, eat, expect}
 use Rattle.c_reading.specs.Trees.{begins_declaration}
 use Rattle.c_reading.specs.Expressions.{Reader, expr, conditional, read}
-use Rattle.c_program.specs.declared.declarations.Opening.{Opening}
-use Rattle.c_program.specs.declared.declarations.Opening.TheVariants as opening_
-use Rattle.c_program.specs.Declarations.{opening, declaration}
+use Rattle.c_declarations.specs.declared.declarations.Opening.{Opening}
+use Rattle.c_declarations.specs.declared.declarations.Opening.TheVariants as opening_
+use Rattle.c_declarations.specs.Declarations.{opening, declaration}
 
 -- a statement, and the statements of a block up to its end, behind those that were read
 pub record Statements : Type 0 where

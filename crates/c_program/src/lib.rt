@@ -1,5 +1,5 @@
-//! The reading of declarations, statements and programs from the tokens of a C source (C11 6.7 to
-//! 6.9), by one token of lookahead.
+//! The reading of statements and programs from the tokens of a C source (C11 6.8 and 6.9), by one
+//! token of lookahead.
 //!
 //! `read` gives the tree of the program that the tokens spell, or the first token that continues
 //! no program or stands deeper than 200. It equals a reading that is defined on lists of words by
@@ -7,7 +7,6 @@
 //! out. The recursion of the code is bounded by the nesting, and lists are read by loops.
 #![tactic(auto)]
 
-mod declarations;
 mod program;
 mod statements;
 

@@ -5,8 +5,8 @@ ghost use Rattle.c_grammar.specs.Words.{lexemes};
 ghost use Rattle.c_program.specs.Statements as spec;
 ghost use Rattle.c_reading.specs.Ahead.{Answers, NotOut, ReadsAt, shallow};
 
-use crate::declarations::{Opening, open_declaration};
 use crate::statements::block;
+use c_declarations::{Opening, open_declaration};
 use c_grammar::Sign;
 use c_reading::{Fault, eat, expect, peek, place, push};
 use c_tree::Token;

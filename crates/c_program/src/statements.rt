@@ -8,7 +8,7 @@ ghost use Rattle.c_reading.specs.Expressions.{read};
 ghost use Rattle.c_program.specs.Statements as spec;
 ghost use Rattle.c_reading.specs.Ahead.{Reads, ReadsAt, shallow};
 
-use crate::declarations::declaration;
+use c_declarations::declaration;
 use c_grammar::Sign;
 use c_reading::{
     Fault, begins_declaration, conditional, eat, expect, expression, peek, place, push, unboxed,

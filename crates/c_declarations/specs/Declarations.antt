@@ -16,8 +16,8 @@ use Rattle.c_tree.specs.declared.syntax.Parameters.{Parameters}
 use Rattle.c_tree.specs.declared.syntax.Parameters.TheVariants as parameters_
 use Rattle.c_tree.specs.declared.syntax.Declaration.{Declaration}
 use Rattle.c_tree.specs.declared.syntax.Declaration.TheVariants as declaration_
-use Rattle.c_program.specs.declared.declarations.Opening.{Opening}
-use Rattle.c_program.specs.declared.declarations.Opening.TheVariants as opening_
+use Rattle.c_declarations.specs.declared.declarations.Opening.{Opening}
+use Rattle.c_declarations.specs.declared.declarations.Opening.TheVariants as opening_
 use Rattle.c_grammar.specs.declared.sign.Sign.{Sign}
 use Rattle.c_grammar.specs.declared.sign.Sign.TheVariants as sign
 use Rattle.c_reading.specs.Parsers.{Parser, ◌>>=◌, ◌>>◌, pure, out, peek, place, same, phrase, eat, expect, name, name_if_any, more}

@@ -5,7 +5,7 @@
 ghost use Rattle.std.specs.Prelude.{◌≡◌, ◌≤◌, []};
 ghost use Rattle.c_grammar.specs.Words.{lexemes};
 ghost use Rattle.c_reading.specs.Expressions.{read};
-ghost use Rattle.c_program.specs.Declarations as spec;
+ghost use Rattle.c_declarations.specs.Declarations as spec;
 ghost use Rattle.c_reading.specs.Ahead.{ReadsAt, shallow};
 
 use c_grammar::Sign;

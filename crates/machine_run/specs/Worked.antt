@@ -1,13 +1,13 @@
 -- What some programs do, worked out by hand, at words of 16 bits and 8 bytes of memory.
-use Rattle.std.specs.Prelude.{◌≡◌, ℕ, List, [], ◌∷◌}
+use Rattle.std.specs.Prelude.{◌≡◌, List, [], ◌∷◌}
 use Rattle.behaviour.specs.Behaviour.{Running, Ended, Failed, Trapped}
-use Rattle.rtl_tree.specs.Trees.{Tree, Number, CodeLabel, Read, Load, Unary, Binary}
+use Rattle.rtl_tree.specs.Trees.{Tree, Number, Read, Load, Unary, Binary}
 use Rattle.rtl_tree.specs.Moves.{ToCell, Move}
 use Rattle.rtl_tree.specs.declared.cells.Cell.{Cell}
 use Rattle.rtl_tree.specs.declared.cells.Cell.TheVariants.{Hard, Flag, Pc, Input, Output, Halt}
 use Rattle.rtl_tree.specs.declared.expressions.Width.TheVariants.{Byte}
 use Rattle.rtl_tree.specs.declared.expressions.UnOp.TheVariants.{Test}
-use Rattle.rtl_tree.specs.declared.expressions.BinOp.TheVariants.{Add, Div}
+use Rattle.rtl_tree.specs.declared.expressions.BinOp.TheVariants.{Div}
 use Rattle.rtl_word.specs.declared.Rel.TheVariants.{Eq}
 use Rattle.machine_run.specs.Machine.{Code, machine_run}
 

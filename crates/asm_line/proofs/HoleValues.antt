@@ -95,30 +95,30 @@ chosen true c x y p e = inl (refl, same_item x p e)
 chosen false true x y p e = inr (refl, same_item y p e)
 chosen false false x y p e = absurd (no_item p e)
 
-not_both_signs : (n k : ℕ) → pos n ≡ negsuc k → ⊥
+pub not_both_signs : (n k : ℕ) → pos n ≡ negsuc k → ⊥
 not_both_signs n k e = cc
 
-same_pos : (n k : ℕ) → pos n ≡ pos k → n ≡ k
+pub same_pos : (n k : ℕ) → pos n ≡ pos k → n ≡ k
 same_pos n k e = cc
 
-same_neg : (n k : ℕ) → negsuc n ≡ negsuc k → n ≡ k
+pub same_neg : (n k : ℕ) → negsuc n ≡ negsuc k → n ≡ k
 same_neg n k e = cc
 
-turned_below : (w : ℕ) (inverted : Bool) (v : ℕ) → v < 2 ^ w → turned w inverted v < 2 ^ w
+pub turned_below : (w : ℕ) (inverted : Bool) (v : ℕ) → v < 2 ^ w → turned w inverted v < 2 ^ w
 turned_below w true v h = omega arith
 turned_below w false v h = h
 
-turned_once : (w : ℕ) (inverted : Bool) (v u : ℕ) → v < 2 ^ w → u < 2 ^ w → turned w inverted v ≡ turned w inverted u → v ≡ u
+pub turned_once : (w : ℕ) (inverted : Bool) (v u : ℕ) → v < 2 ^ w → u < 2 ^ w → turned w inverted v ≡ turned w inverted u → v ≡ u
 turned_once w true v u h k e = omega (arith, e)
 turned_once w false v u h k e = e
 
 module _ (w : ℕ) (low high : ℤ) (inverted : Bool) where
-  abbrev Choice : ℕ → ℤ → Type 0
+  abbrev pub Choice : ℕ → ℤ → Type 0
   Choice v p =
       ((within low high (pos (turned w inverted v)) ≡ true) × (pos (turned w inverted v) ≡ p))
       ⊎ ((within low high (below_zero w (turned w inverted v)) ≡ true) × (below_zero w (turned w inverted v) ≡ p))
 
-  choice : (v : ℕ) (p : ℤ) → printed w low high inverted v ≡ Some p → Choice v p
+  pub choice : (v : ℕ) (p : ℤ) → printed w low high inverted v ≡ Some p → Choice v p
   choice v p e = chosen (within low high (pos (turned w inverted v))) (within low high (below_zero w (turned w inverted v))) (pos (turned w inverted v)) (below_zero w (turned w inverted v)) p e
 
   word_by : (v u : ℕ) (p : ℤ) → v < 2 ^ w → u < 2 ^ w → Choice v p → Choice u p → turned w inverted v ≡ turned w inverted u

@@ -4,3 +4,12 @@ pub mod HoleValues
 pub mod Texts
 pub mod Unique
 pub mod Printed
+pub mod Walking
+pub mod Words
+pub mod Pieces
+pub mod Different
+pub mod Made
+pub mod Among
+pub mod Rows
+pub mod Growing
+pub mod LineRead

@@ -40,7 +40,7 @@ some_map : {A B : Type 0} (f : A → B) (o : Option A) → IsTrue (is_some o) �
 some_map f None h = h
 some_map f (Some x) h = refl
 
-some_at : {A : Type 0} (xs : List A) (i : ℕ) → i < length xs → IsTrue (is_some (slice_get xs i))
+pub some_at : {A : Type 0} (xs : List A) (i : ℕ) → i < length xs → IsTrue (is_some (slice_get xs i))
 some_at [] i h = absurd (omega (arith, h))
 some_at (x ∷ xs) zero h = refl
 some_at (x ∷ xs) (suc i) h = some_at xs i (let k : suc i < suc (length xs) = h in omega arith)

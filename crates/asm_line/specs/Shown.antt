@@ -1,5 +1,5 @@
 -- A token as it is written, and the bytes that a line has yet to take.
-use Rattle.std.specs.Prelude.{if◌then◌else◌, ℕ, ◌+◌, List, [], ◌∷◌, decimal, filter_map, slice_get, Option, Some, option_map, IsTrue, All, ◌≡◌, ◌≤◌}
+use Rattle.std.specs.Prelude.{ℕ, ◌+◌, if◌then◌else◌, List, [], ◌∷◌, decimal, filter_map, slice_get, Option, Some, option_map, IsTrue, All, ◌≡◌, ◌≤◌}
 use Rattle.asm_token.specs.Tokens.{Token, Name, Number, Mark}
 use Rattle.asm_token.specs.Line.{line_of}
 use Rattle.rtl_word.specs.Words.{IsWordSize}

@@ -1,5 +1,5 @@
 -- How the tokens of a line are separated, token by token.
-use Rattle.std.specs.Prelude.{if◌then◌else◌, ℕ, ◌+◌, List, [], ◌∷◌, ◌++◌}
+use Rattle.std.specs.Prelude.{ℕ, if◌then◌else◌, List, [], ◌∷◌, ◌++◌}
 use Rattle.asm_token.specs.Tokens.{Token, spelling}
 use Rattle.asm_token.specs.Line.{is_word}
 use Rattle.asm_line.specs.declared.writing.Before.{Before}

@@ -40,7 +40,7 @@ fn print_row(out: &mut LineBuf, d: &RawDescription, names: &Names, row: &Row, bi
     push_tokens(out, d, names, row, binding);
 }
 
-fn row_at(d: &RawDescription, place: u16) -> &Row
+pub(crate) fn row_at(d: &RawDescription, place: u16) -> &Row
     requires { IsTrue (is_some (slice_get d.now.rows place)) }
     ensures { slice_get d.now.rows place ≡ Some result.now }
 {

@@ -1,6 +1,6 @@
 //! The token that a piece of a row's text is on a line.
 
-ghost use Rattle.std.specs.Prelude.{◌≡◌, ◌≤◌, ◌<◌, ◌^◌, IfNone, IfSome, IsTrue, None, Option, Some, is_some, length, option_map, slice_get};
+ghost use Rattle.std.specs.Prelude.{◌≡◌, ◌≤◌, ◌<◌, ◌^◌, ◌&&◌, nat_lt, IfNone, IfSome, IsTrue, None, Option, Some, is_some, length, option_map, slice_get};
 ghost use Rattle.rtl_word.specs.Words.{IsWordSize};
 ghost use Rattle.asm_token.specs.Tokens.{Name as NameToken, Number as NumberToken, spelling};
 ghost use Rattle.asm_token.specs.Line.{is_word};

@@ -1,0 +1,4 @@
+pub mod Saying
+pub mod Walking
+pub mod OneProgram
+pub mod EmptyText

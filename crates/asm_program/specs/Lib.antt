@@ -1,0 +1,5 @@
+pub mod TextLines
+pub mod Places
+pub mod Rules
+pub mod Programs
+pub mod Law

@@ -6,6 +6,10 @@
 
 #[cfg(test)]
 mod cases;
+#[cfg(test)]
+mod line_cases;
+#[cfg(test)]
+mod line_tests;
 mod naming;
 mod telling;
 #[cfg(test)]

@@ -61,7 +61,7 @@ impl From<MdFault> for Trouble {
     }
 }
 
-fn line_of(d: &RawDescription, row: u16) -> u32 {
+pub(crate) fn line_of(d: &RawDescription, row: u16) -> u32 {
     match d.rows.as_slice().get(usize::from(row)) {
         Some(row) => row.line,
         None => 0,

@@ -1,6 +1,5 @@
 -- The instance of a line that was read, and the names that it brings.
 use Rattle.std.proofs.Common.{◌≡◌, ℕ, ◌<◌, ◌≤◌, ◌^◌, List, [], ◌∷◌, ◌++◌, length, take, Some, All, Contains, refl, sym, ap, subst, ◌∙◌, arith}
-use Rattle.std.proofs.Math.Seq.{take-append_seam}
 use Rattle.std.proofs.lemmas.List.Elements.{All-nil, All-cons, All-weaker, All-contains, All-head, All-tail, Contains-append_right}
 use Rattle.asm_token.specs.Tokens.{Token, Name as NameToken, Number as NumberToken, Mark as MarkToken}
 use Rattle.rtl_tree.specs.Names.{IsName, AreNames as AreCNames}
@@ -106,12 +105,3 @@ module _ (d : RawDescription) (ts : List Token) (place : ℕ) (vs : List Value) 
 
 pub never_read : (d : RawDescription) (n : Names) (ts : List Token) → IsReadable d → NoRow d ts → HasInstance d n ts → ⊥
 never_read d n ts readable no_row h = none d h.names h.objects h.functions ts h.instance readable no_row h.numbers h.line
-
--- names cut back to what they were
-
-pub names_back : (P Q : List ℕ → Type 0) (old new : Names) (xs ys : List (List ℕ)) → IsExtension P Q old new → xs ≡ take (length old.objects) new.objects
-    → ys ≡ take (length old.functions) new.functions → record { objects = xs; functions = ys } ≡ old
-names_back P Q old new xs ys g e f =
-    let first : xs ≡ old.objects = e ∙ ap (take (length old.objects)) g.objects.are ∙ take-append_seam old.objects g.objects.more in
-    let second : ys ≡ old.functions = f ∙ ap (take (length old.functions)) g.functions.are ∙ take-append_seam old.functions g.functions.more in
-    λ i. record { objects = first i; functions = second i }

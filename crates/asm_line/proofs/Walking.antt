@@ -4,9 +4,9 @@ use Rattle.std.proofs.Math.Seq.{take-length}
 use Rattle.std.proofs.lemmas.List.{length-drop}
 use Rattle.std.specs.List.{prefix_len}
 use Rattle.std.proofs.lemmas.Bool.{eqb-true}
-use Rattle.asm_token.specs.Tokens.{Token, LongestToken, BeginsNoToken, at_end, after_gap, is_blank_or_tab, spelling}
+use Rattle.asm_token.specs.Tokens.{Token, LongestToken, BeginsNoToken, Spells, at_end, after_gap, one_token, is_blank_or_tab, spelling}
 use Rattle.asm_token.proofs.Lengths.{token_nonempty}
-use Rattle.asm_token.proofs.Steps.{nothing_left, past_gap, past_token, before_token, no_tokens, blank_or_tab_is_gap}
+use Rattle.asm_token.proofs.Steps.{nothing_left, past_gap, past_token, no_tokens, blank_or_tab_is_gap}
 use Rattle.asm_line.specs.Walk.{IsLine}
 use Rattle.asm_token.specs.Seen.{token_of}
 use Rattle.asm_line.specs.declared.tokens.Next.{Next}
@@ -57,11 +57,16 @@ pub bad_is : (text : List ℕ) → BeginsWithNoGap text → BeginsNoToken text �
 bad_is [] g none some ts h = omega (arith, some)
 bad_is (b ∷ bs) g none some ts h = no_tokens gap b bs ts g none h
 
+before_token : (text : List ℕ) (t : Token) (n : ℕ) (ts : List Token) → LongestToken text t n → Spells gap (drop n text) ts → Spells gap text (t ∷ ts)
+before_token text t n ts l h =
+    let P : List ℕ → Type 0 = λ ds. Spells gap ds (t ∷ ts) in
+    subst P (sym l.spelled) (one_token t (drop n text) ts l.is_token l.longest h)
+
 pub token_is : (text : List ℕ) (t : Token) (n : ℕ) → LongestToken text t n → IsToken text t (drop n text)
 token_is text t n l =
     let some : 0 < length (spelling t) = token_nonempty t l.is_token in
     record {
-      onward = λ us h. before_token gap text t n us l h;
+      onward = λ us h. before_token text t n us l h;
       back = λ ts h. let k = past_token gap text t n ts blank_or_tab_is_gap l h in record { others = k.others; are = k.is; line = k.spelled };
       shorter = omega (arith, some, ap length l.spelled, length-append (spelling t) (drop n text));
     }

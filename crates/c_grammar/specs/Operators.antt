@@ -2,6 +2,8 @@
 use Rattle.std.specs.Prelude.{ℕ, List, [], ◌∷◌}
 use Rattle.c_tree.specs.declared.syntax.BinaryOperator.{BinaryOperator}
 use Rattle.c_tree.specs.declared.syntax.BinaryOperator.TheVariants as binary
+use Rattle.c_tree.specs.declared.syntax.Arithmetic.{Arithmetic}
+use Rattle.c_tree.specs.declared.syntax.Arithmetic.TheVariants as arithmetic
 use Rattle.c_tree.specs.declared.syntax.AssignOperator.{AssignOperator}
 use Rattle.c_tree.specs.declared.syntax.AssignOperator.TheVariants as assign
 use Rattle.c_tree.specs.declared.syntax.UnaryOperator.{UnaryOperator}
@@ -54,18 +56,21 @@ binary_sign binary.Multiply = sign.Star
 binary_sign binary.Divide = sign.Slash
 binary_sign binary.Remainder = sign.Percent
 
+abbrev pub arithmetic_sign : Arithmetic → Sign
+arithmetic_sign arithmetic.Add = sign.AssignAdd
+arithmetic_sign arithmetic.Subtract = sign.AssignSubtract
+arithmetic_sign arithmetic.Multiply = sign.AssignMultiply
+arithmetic_sign arithmetic.Divide = sign.AssignDivide
+arithmetic_sign arithmetic.Remainder = sign.AssignRemainder
+arithmetic_sign arithmetic.And = sign.AssignAnd
+arithmetic_sign arithmetic.Xor = sign.AssignXor
+arithmetic_sign arithmetic.Or = sign.AssignOr
+arithmetic_sign arithmetic.ShiftLeft = sign.AssignShiftLeft
+arithmetic_sign arithmetic.ShiftRight = sign.AssignShiftRight
+
 abbrev pub assign_sign : AssignOperator → Sign
 assign_sign assign.Plain = sign.Assign
-assign_sign assign.Add = sign.AssignAdd
-assign_sign assign.Subtract = sign.AssignSubtract
-assign_sign assign.Multiply = sign.AssignMultiply
-assign_sign assign.Divide = sign.AssignDivide
-assign_sign assign.Remainder = sign.AssignRemainder
-assign_sign assign.And = sign.AssignAnd
-assign_sign assign.Xor = sign.AssignXor
-assign_sign assign.Or = sign.AssignOr
-assign_sign assign.ShiftLeft = sign.AssignShiftLeft
-assign_sign assign.ShiftRight = sign.AssignShiftRight
+assign_sign (assign.Compound o) = arithmetic_sign o
 
 abbrev pub unary_sign : UnaryOperator → Sign
 unary_sign unary.Plus = sign.Plus

@@ -19,6 +19,3 @@ mod rule;
 mod words;
 
 pub use lexing::lex;
-
-#[cfg(test)]
-mod tests;

@@ -6,7 +6,7 @@ use Rattle.c_tree.specs.declared.syntax.TypeWords.{TypeWords}
 use Rattle.c_tree.specs.declared.syntax.TypeWords.TheVariants as words
 use Rattle.c_grammar.specs.declared.sign.Sign.{Sign}
 use Rattle.c_grammar.specs.declared.sign.Sign.TheVariants as sign
-use Rattle.c_reading.specs.Trees.{place_in}
+use Rattle.c_tree.specs.Places.{place_in}
 
 abbrev pub place_of : Expr → At
 place_of e = place_in (out-Expr e)

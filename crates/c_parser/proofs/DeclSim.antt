@@ -22,9 +22,9 @@ use Rattle.c_tree.specs.declared.syntax.Parameter.{Parameter}
 use Rattle.c_tree.specs.declared.syntax.Parameters.{Parameters}
 use Rattle.c_tree.specs.declared.syntax.Parameters.TheVariants as parameters
 use Rattle.c_tree.specs.declared.syntax.Declaration.TheVariants as declaration
-use Rattle.c_reading.specs.Declarations as d
-use Rattle.c_reading.specs.declared.declarations.Opening.{Opening}
-use Rattle.c_reading.specs.declared.declarations.Opening.TheVariants as opening_
+use Rattle.c_declarations.specs.Declarations as d
+use Rattle.c_declarations.specs.declared.declarations.Opening.{Opening}
+use Rattle.c_declarations.specs.declared.declarations.Opening.TheVariants as opening_
 use Rattle.c_reading.specs.Parsers.{name, name_by, name_if_any, name_if_any_by}
 use Rattle.c_parser.proofs.Machine as m
 use Rattle.c_parser.proofs.Machine.{State, operand, have, Use, step, run, Outcome, Next, goes, moved, at_end, hole, first, spot, op_of, takes, push, close_use, use_hole, Home, Naming, Heading, home_nesting, conclude, item_named, item_sized, item_valued, item_ended, item_next, item_end, item_of, value_after, parameters_first, parameter_typed, parameter_ended, parameter_next, header, declaring, either, is_sign, identifier}

@@ -7,6 +7,7 @@ use Rattle.std.proofs.lemmas.Bool.Decides.{nat_tests}
 use Rattle.c_tree.specs.declared.token.At.{At}
 use Rattle.c_tree.specs.declared.syntax.BinaryOperator.{BinaryOperator}
 use Rattle.c_tree.specs.declared.syntax.BinaryOperator.TheVariants as binary_
+use Rattle.c_tree.specs.declared.syntax.Arithmetic.TheVariants as arithmetic_
 use Rattle.c_tree.specs.declared.syntax.AssignOperator.{AssignOperator}
 use Rattle.c_tree.specs.declared.syntax.AssignOperator.TheVariants as assign_
 use Rattle.c_tree.specs.declared.syntax.UnaryOperator.{UnaryOperator}
@@ -110,7 +111,8 @@ binary_op _ = refl
 
 pub assign_op : (o : AssignOperator) → op_of (assign_sign o) ≡ m.assigns o
 assign_op assign_.Plain = refl
-assign_op _ = refl
+assign_op (assign_.Compound arithmetic_.Add) = refl
+assign_op (assign_.Compound _) = refl
 
 pub step_op : (o : StepOperator) → op_of (step_sign o) ≡ m.steps o
 step_op step_.Increment = refl
@@ -122,7 +124,8 @@ binary_binds _ = refl
 
 pub assign_binds : (o : AssignOperator) → binds (assign_sign o) ≡ 2
 assign_binds assign_.Plain = refl
-assign_binds _ = refl
+assign_binds (assign_.Compound arithmetic_.Add) = refl
+assign_binds (assign_.Compound _) = refl
 
 pub step_binds : (o : StepOperator) → binds (step_sign o) ≡ 16
 step_binds step_.Increment = refl

@@ -5,6 +5,7 @@ use Rattle.c_tree.specs.declared.syntax.Expr.{Expr}
 use Rattle.c_tree.specs.declared.syntax.Expr.TheVariants as tree
 use Rattle.c_tree.specs.declared.syntax.BinaryOperator.{BinaryOperator}
 use Rattle.c_tree.specs.declared.syntax.BinaryOperator.TheVariants as binary_
+use Rattle.c_tree.specs.declared.syntax.Arithmetic.TheVariants as arithmetic_
 use Rattle.c_tree.specs.declared.syntax.AssignOperator.{AssignOperator}
 use Rattle.c_tree.specs.declared.syntax.AssignOperator.TheVariants as assign_
 use Rattle.c_tree.specs.declared.syntax.UnaryOperator.{UnaryOperator}
@@ -252,16 +253,16 @@ op_of sign.Star = joins binary_.Multiply
 op_of sign.Slash = joins binary_.Divide
 op_of sign.Percent = joins binary_.Remainder
 op_of sign.Assign = assigns assign_.Plain
-op_of sign.AssignAdd = assigns assign_.Add
-op_of sign.AssignSubtract = assigns assign_.Subtract
-op_of sign.AssignMultiply = assigns assign_.Multiply
-op_of sign.AssignDivide = assigns assign_.Divide
-op_of sign.AssignRemainder = assigns assign_.Remainder
-op_of sign.AssignAnd = assigns assign_.And
-op_of sign.AssignXor = assigns assign_.Xor
-op_of sign.AssignOr = assigns assign_.Or
-op_of sign.AssignShiftLeft = assigns assign_.ShiftLeft
-op_of sign.AssignShiftRight = assigns assign_.ShiftRight
+op_of sign.AssignAdd = assigns (assign_.Compound arithmetic_.Add)
+op_of sign.AssignSubtract = assigns (assign_.Compound arithmetic_.Subtract)
+op_of sign.AssignMultiply = assigns (assign_.Compound arithmetic_.Multiply)
+op_of sign.AssignDivide = assigns (assign_.Compound arithmetic_.Divide)
+op_of sign.AssignRemainder = assigns (assign_.Compound arithmetic_.Remainder)
+op_of sign.AssignAnd = assigns (assign_.Compound arithmetic_.And)
+op_of sign.AssignXor = assigns (assign_.Compound arithmetic_.Xor)
+op_of sign.AssignOr = assigns (assign_.Compound arithmetic_.Or)
+op_of sign.AssignShiftLeft = assigns (assign_.Compound arithmetic_.ShiftLeft)
+op_of sign.AssignShiftRight = assigns (assign_.Compound arithmetic_.ShiftRight)
 op_of sign.Increment = steps step_.Increment
 op_of sign.Decrement = steps step_.Decrement
 op_of sign.Question = asks

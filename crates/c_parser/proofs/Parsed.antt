@@ -19,7 +19,7 @@ use Rattle.c_reading.specs.declared.fault.Fault.TheVariants as fault
 use Rattle.c_parser.specs.Answers.{Breaks, no_program, too_deep, reason_of}
 use Rattle.c_grammar.specs.Spelling.{Spelled, FirstBad, FirstDeep, Ended}
 use Rattle.c_reading.specs.Parsers.{Wrong, Deep, Out, Read, sign_at, place_at}
-use Rattle.c_reading.specs.Statements as st
+use Rattle.c_program.specs.Statements as st
 use Rattle.c_parser.proofs.Machine as m
 use Rattle.c_parser.proofs.Machine.{run, Outcome}
 use Rattle.c_parser.proofs.Whole.{tokens_of, shallow, okay, ok_same, Ran, Stuck, Sunk, outcome, read_spelled, stuck_at, sunk_at, never_behind, spelled_read}

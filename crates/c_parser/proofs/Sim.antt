@@ -11,6 +11,7 @@ use Rattle.c_tree.specs.declared.syntax.TypeWords.{TypeWords}
 use Rattle.c_tree.specs.declared.syntax.TypeWords.TheVariants as words
 use Rattle.c_tree.specs.declared.syntax.BinaryOperator.{BinaryOperator}
 use Rattle.c_tree.specs.declared.syntax.BinaryOperator.TheVariants as binary_
+use Rattle.c_tree.specs.declared.syntax.Arithmetic.TheVariants as arithmetic_
 use Rattle.c_tree.specs.declared.syntax.AssignOperator.{AssignOperator}
 use Rattle.c_tree.specs.declared.syntax.AssignOperator.TheVariants as assign_
 use Rattle.c_tree.specs.declared.syntax.UnaryOperator.{UnaryOperator}
@@ -27,6 +28,7 @@ use Rattle.c_grammar.specs.Phrases.{Said, sub, behind, marks_of, commas, the_sig
 use Rattle.c_grammar.specs.Grammar.{about, type, assign}
 use Rattle.c_reading.specs.Parsers.{Wrong, Deep, Out, same, Read, Parser, ◌>>=◌, ◌>>◌, and_then, pure, wrong, word_at, place_at, sign_at, eat, expect, more, deeper, counted}
 use Rattle.c_reading.specs.Expressions as r
+use Rattle.c_tree.specs.Places as places
 use Rattle.c_reading.specs.Trees as q
 use Rattle.c_parser.proofs.Asked.{place_of, type_of, joined}
 use Rattle.c_parser.proofs.Machine as m
@@ -37,8 +39,8 @@ use Rattle.c_parser.proofs.Reached.{word_is}
 
 -- ---- the reading's questions
 
-pub same_place_of : (e : Expr) → q.place_of e ≡ place_of e
-unfolding q.place_of
+pub same_place_of : (e : Expr) → places.place_of e ≡ place_of e
+unfolding places.place_of
 same_place_of e = refl
 
 pub same_type_of : (s : Sign) → q.type_of s ≡ type_of s
@@ -79,16 +81,16 @@ binary_none _ o e h = absurd cc
 pub assign_some : (s : Sign) (o : AssignOperator) → q.assign_of s ≡ Some o → op_of s ≡ m.assigns o
 unfolding q.assign_of
 assign_some sign.Assign o e = let f : assign_.Plain ≡ o = cc in ap (λ x. m.assigns x) f
-assign_some sign.AssignAdd o e = let f : assign_.Add ≡ o = cc in ap (λ x. m.assigns x) f
-assign_some sign.AssignSubtract o e = let f : assign_.Subtract ≡ o = cc in ap (λ x. m.assigns x) f
-assign_some sign.AssignMultiply o e = let f : assign_.Multiply ≡ o = cc in ap (λ x. m.assigns x) f
-assign_some sign.AssignDivide o e = let f : assign_.Divide ≡ o = cc in ap (λ x. m.assigns x) f
-assign_some sign.AssignRemainder o e = let f : assign_.Remainder ≡ o = cc in ap (λ x. m.assigns x) f
-assign_some sign.AssignAnd o e = let f : assign_.And ≡ o = cc in ap (λ x. m.assigns x) f
-assign_some sign.AssignXor o e = let f : assign_.Xor ≡ o = cc in ap (λ x. m.assigns x) f
-assign_some sign.AssignOr o e = let f : assign_.Or ≡ o = cc in ap (λ x. m.assigns x) f
-assign_some sign.AssignShiftLeft o e = let f : assign_.ShiftLeft ≡ o = cc in ap (λ x. m.assigns x) f
-assign_some sign.AssignShiftRight o e = let f : assign_.ShiftRight ≡ o = cc in ap (λ x. m.assigns x) f
+assign_some sign.AssignAdd o e = let f : assign_.Compound arithmetic_.Add ≡ o = cc in ap (λ x. m.assigns x) f
+assign_some sign.AssignSubtract o e = let f : assign_.Compound arithmetic_.Subtract ≡ o = cc in ap (λ x. m.assigns x) f
+assign_some sign.AssignMultiply o e = let f : assign_.Compound arithmetic_.Multiply ≡ o = cc in ap (λ x. m.assigns x) f
+assign_some sign.AssignDivide o e = let f : assign_.Compound arithmetic_.Divide ≡ o = cc in ap (λ x. m.assigns x) f
+assign_some sign.AssignRemainder o e = let f : assign_.Compound arithmetic_.Remainder ≡ o = cc in ap (λ x. m.assigns x) f
+assign_some sign.AssignAnd o e = let f : assign_.Compound arithmetic_.And ≡ o = cc in ap (λ x. m.assigns x) f
+assign_some sign.AssignXor o e = let f : assign_.Compound arithmetic_.Xor ≡ o = cc in ap (λ x. m.assigns x) f
+assign_some sign.AssignOr o e = let f : assign_.Compound arithmetic_.Or ≡ o = cc in ap (λ x. m.assigns x) f
+assign_some sign.AssignShiftLeft o e = let f : assign_.Compound arithmetic_.ShiftLeft ≡ o = cc in ap (λ x. m.assigns x) f
+assign_some sign.AssignShiftRight o e = let f : assign_.Compound arithmetic_.ShiftRight ≡ o = cc in ap (λ x. m.assigns x) f
 assign_some _ o e = absurd cc
 
 pub assign_none : (s : Sign) (o : AssignOperator) → q.assign_of s ≡ None → op_of s ≡ m.assigns o → ⊥
@@ -435,7 +437,7 @@ module _ (T : ℕ → Bool) where
     marks_comma at a x n = ap (λ (s : Said). behind n s) (said_comma at a x) ∙ omega (arith, behind_plus n (about a))
 
     comma_sim : (e : Expr) (fs : List Frame) (u : Use) (n : ℕ) (ts : List Lexeme) → hole fs u ≡ 0 → n ≡ outside fs u e → Stop 1 (op_of (sign_at ts)) e → (s : Sign) → sign_at ts ≡ s → Has (r.comma_by T R e s n ts) ts (have e fs u) fs u 0 (place_of e) (outside fs u)
-    unfolding q.place_of
+    unfolding places.place_of
     comma_sim e fs u n ts h0 nn st sign.Comma is =
         sim_then (counted T n ts) _ (run T ts (have e fs u)) (λ x. operand (m.comma e ∷ fs) u) (λ x k us. Took (suc n) k) (λ x. have x fs u) (Got 0 (place_of e) (outside fs u))
         (sim_counted (have e fs u) (operand (m.comma e ∷ fs) u) n ts refl (op_step e fs u m.commas ts n _ (ap op_of is) refl (omega (arith, h0)) (omega arith) (ap (λ k. goes k (operand (m.comma e ∷ fs) u)) (sym nn))))
@@ -465,10 +467,10 @@ module _ (T : ℕ → Bool) where
       stop : Stop 1 (op_of (sign_at us)) x
 
     left_sim : (p : At) (e : Expr) (fs : List Frame) (u : Use) (n : ℕ) (ts : List Lexeme) → hole fs u ≤ 1 → n ≡ inner fs u e → 2 ≤ (about e).level → place_of e ≡ p → Stop 2 (op_of (sign_at ts)) e → Sim (r.after_left T R e n ts) (run T ts (have e fs u)) (λ x. have x fs u) (λ x k us. Left_side p x us)
-    unfolding r.after_left q.place_of
+    unfolding r.after_left places.place_of
     left_sim p e fs u n ts h nn l pl st = by_assign (q.assign_of (sign_at ts)) refl
       where
-        by_unary : (o : AssignOperator) → op_of (sign_at ts) ≡ m.assigns o → (b : Bool) → q.is_unary e ≡ b → Sim ((cond b (counted T >>= (λ y. R r.assign >>= (λ x. pure (tree.Assign (q.place_of e) e o x)))) (pure e)) n ts) (run T ts (have e fs u)) (λ x. have x fs u) (λ x k us. Left_side p x us)
+        by_unary : (o : AssignOperator) → op_of (sign_at ts) ≡ m.assigns o → (b : Bool) → q.is_unary e ≡ b → Sim ((cond b (counted T >>= (λ y. R r.assign >>= (λ x. pure (tree.Assign (places.place_of e) e o x)))) (pure e)) n ts) (run T ts (have e fs u)) (λ x. have x fs u) (λ x k us. Left_side p x us)
         by_unary o is false un = (refl, record { level = omega (arith, l); place = pl; stop = stop_one (op_of (sign_at ts)) e st (λ x c. let f : nat_le 14 (about e).level ≡ false = sym (unary_is e) ∙ un in omega (arith, leb-false 14 (about e).level f)) })
         by_unary o is true un =
             let fourteen : 14 ≤ (about e).level = leb-true 14 (about e).level (sym (unary_is e) ∙ un) in
@@ -496,7 +498,7 @@ module _ (T : ℕ → Bool) where
     marks_binary at a o x n = ap (λ (s : Said). n + s.marks) (said_binary at a o x) ∙ omega arith
 
     operand_sim : (k : ℕ) (e : Expr) (fs : List Frame) (u : Use) (n : ℕ) (ts : List Lexeme) → 3 ≤ k → k ≤ 13 → hole fs u ≤ k → k ≤ (about e).level → n ≡ inner fs u e → Edge (op_of (sign_at ts)) e → Has (r.step T R (r.after_operand k e) n ts) ts (have e fs u) fs u k (place_of e) (inner fs u)
-    unfolding q.place_of
+    unfolding places.place_of
     operand_sim k e fs u n ts lo hi h l nn ed = by_binary (q.binary_of (sign_at ts)) refl
       where
         stays : ((x : BinaryOperator) → op_of (sign_at ts) ≡ m.joins x → precedence x < k) → Sim (pure e n ts) (run T ts (have e fs u)) (λ x. have x fs u) (Got k (place_of e) (inner fs u))
@@ -505,7 +507,7 @@ module _ (T : ℕ → Bool) where
         joins_same : (a b : BinaryOperator) → m.joins a ≡ m.joins b → a ≡ b
         joins_same a b e = cc
 
-        by_prec : (o : BinaryOperator) → op_of (sign_at ts) ≡ m.joins o → (b : Bool) → nat_lt (precedence o) k ≡ b → Sim ((cond b (pure e) (counted T >>= (λ y. R (r.binary (suc (precedence o))) >>= (λ x. R (r.after_operand k (tree.Binary (q.place_of e) e o x)))))) n ts) (run T ts (have e fs u)) (λ x. have x fs u) (Got k (place_of e) (inner fs u))
+        by_prec : (o : BinaryOperator) → op_of (sign_at ts) ≡ m.joins o → (b : Bool) → nat_lt (precedence o) k ≡ b → Sim ((cond b (pure e) (counted T >>= (λ y. R (r.binary (suc (precedence o))) >>= (λ x. R (r.after_operand k (tree.Binary (places.place_of e) e o x)))))) n ts) (run T ts (have e fs u)) (λ x. have x fs u) (Got k (place_of e) (inner fs u))
         by_prec o is true lt = stays (λ x c. subst (λ y. precedence y < k) (joins_same o x (sym is ∙ c)) (ltb-true (precedence o) k lt))
         by_prec o is false ge =
             let kk : k ≤ precedence o = ltb-false (precedence o) k ge in
@@ -553,7 +555,7 @@ module _ (T : ℕ → Bool) where
         (λ b j ws gb. (refl, record { nesting = gb.nesting; stop = gb.stop }))))
 
     question_sim : (p : At) (e : Expr) (fs : List Frame) (u : Use) (n : ℕ) (ts : List Lexeme) → hole fs u ≤ 2 → n ≡ inner fs u e → 3 ≤ (about e).level → place_of e ≡ p → Stop 3 (op_of (sign_at ts)) e → (s : Sign) → sign_at ts ≡ s → Has (r.conditional_by T R e s n ts) ts (have e fs u) fs u 2 p (inner fs u)
-    unfolding q.place_of
+    unfolding places.place_of
     question_sim p e fs u n ts h nn l pl st sign.Question is =
         sim_then (counted T n ts) _ (run T ts (have e fs u)) (λ x. operand (m.question e ∷ fs) u) (λ x i us. Took (suc n) i) (λ x. have x fs u) (Got 2 p (inner fs u))
         (sim_counted (have e fs u) (operand (m.question e ∷ fs) u) n ts refl (op_step e fs u m.asks ts n _ (ap op_of is) refl h l (ap (λ i. goes i (operand (m.question e ∷ fs) u)) (sym nn))))
@@ -579,7 +581,7 @@ module _ (T : ℕ → Bool) where
     marks_after at e o n = ap (λ (s : Said). n + s.marks) (said_after at e o) ∙ omega arith
 
     behind_sim : (e : Expr) (o : StepOperator) (fs : List Frame) (u : Use) (n : ℕ) (ts : List Lexeme) → hole fs u ≤ 15 → 15 ≤ (about e).level → n ≡ inner fs u e → op_of (sign_at ts) ≡ m.steps o → Has (r.stepped_behind T R e o n ts) ts (have e fs u) fs u 14 (place_of e) (inner fs u)
-    unfolding r.stepped_behind q.place_of
+    unfolding r.stepped_behind places.place_of
     behind_sim e o fs u n ts h l nn is =
         let whole : Expr = tree.After (place_of e) e o in
         sim_then (counted T n ts) _ (run T ts (have e fs u)) (λ x. have whole fs u) (λ x i us. Took (suc n) i) (λ x. have x fs u) (Got 14 (place_of e) (inner fs u))

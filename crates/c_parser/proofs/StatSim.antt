@@ -20,16 +20,16 @@ use Rattle.c_tree.specs.declared.syntax.Syntax.{Syntax}
 use Rattle.c_tree.specs.declared.syntax.Return.TheVariants as gives
 use Rattle.c_tree.specs.declared.syntax.Parameters.{Parameters}
 use Rattle.c_tree.specs.declared.syntax.Declaration.TheVariants as declaration
-use Rattle.c_reading.specs.Declarations as d
-use Rattle.c_reading.specs.declared.declarations.Opening.{Opening}
-use Rattle.c_reading.specs.declared.declarations.Opening.TheVariants as opening_
+use Rattle.c_declarations.specs.Declarations as d
+use Rattle.c_declarations.specs.declared.declarations.Opening.{Opening}
+use Rattle.c_declarations.specs.declared.declarations.Opening.TheVariants as opening_
 use Rattle.c_tree.specs.declared.syntax.Start.{Start}
 use Rattle.c_tree.specs.declared.syntax.Start.TheVariants as start
 use Rattle.c_tree.specs.declared.syntax.Statement.{Statement}
 use Rattle.c_tree.specs.declared.syntax.Statement.TheVariants as tree_
 use Rattle.c_tree.specs.declared.syntax.External.{External}
 use Rattle.c_tree.specs.declared.syntax.External.TheVariants as external
-use Rattle.c_reading.specs.Statements as st
+use Rattle.c_program.specs.Statements as st
 use Rattle.c_parser.proofs.Machine as m
 use Rattle.c_parser.proofs.Machine.{State, operand, have, want, got, Under, Use, step, run, Outcome, Next, goes, moved, at_end, hole, first, spot, outer, op_of, takes, push, close_use, use_hole, is_block, inside, add, maybe_behind, start_behind, for_test, for_next, Home, Naming, Heading, home_nesting, conclude, header, declaring, either, is_sign}
 use Rattle.c_parser.proofs.Sim.{Stop, Sim, sim_then, sim_as, sim_weaker, Took, sim_eat, same_run, sign_is, place_is, sim_expect, Got, inner, outside, read_reads}

@@ -9,8 +9,3 @@ pub mod law;
 mod parser;
 
 pub use parser::parse;
-
-#[cfg(test)]
-mod printed;
-#[cfg(test)]
-mod tests;

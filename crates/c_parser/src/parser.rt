@@ -7,7 +7,8 @@ ghost use Rattle.c_grammar.specs.Words.{lexemes};
 ghost use Rattle.c_grammar.specs.Spelling.{Ended, Spelled};
 ghost use Rattle.c_parser.specs.Answers.{Finds, Refuses, reason_of};
 
-use c_reading::{Fault, read};
+use c_program::read;
+use c_reading::Fault;
 use c_tree::{CFault, Syntax, Token};
 use std::alloc::Global;
 use vp_io::Reason;

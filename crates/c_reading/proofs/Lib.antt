@@ -1,3 +1,2 @@
 pub mod Deeper
 pub mod Enough
-pub mod EnoughPrograms

@@ -15,7 +15,8 @@ use Rattle.c_grammar.specs.declared.sign.Sign.TheVariants as sign
 use Rattle.c_grammar.specs.Words.{Word, a_name, a_number, a_character, a_sign}
 use Rattle.c_grammar.specs.Operators.{precedence}
 use Rattle.c_reading.specs.Parsers.{Parser, ◌>>=◌, ◌>>◌, pure, wrong, out, word_at, peek, place, deeper, phrase, eat, counted, expect, more}
-use Rattle.c_reading.specs.Trees.{place_of, is_unary, binary_of, assign_of, type_of, joined}
+use Rattle.c_tree.specs.Places.{place_of}
+use Rattle.c_reading.specs.Trees.{is_unary, binary_of, assign_of, type_of, joined}
 
 -- What is to be read: a phrase, or what goes on from an expression that was read.
 pub data Goal : Type 0 where

@@ -1,6 +1,4 @@
 pub mod Parsers
 pub mod Trees
 pub mod Expressions
-pub mod Declarations
-pub mod Statements
 pub mod Ahead

@@ -1,36 +1,16 @@
 -- What is asked of a tree while it is read, and which operator or type a sign stands for.
 use Rattle.std.specs.Prelude.{Bool, true, false, Option, Some, None}
-use Rattle.c_tree.specs.declared.token.At.{At}
 use Rattle.c_tree.specs.declared.syntax.Expr.{Expr, out-Expr}
 use Rattle.c_tree.specs.declared.syntax.Expr.TheOpen.{Expr-F, Comma, Assign, Conditional, Binary, Cast, Unary, Before, After, Name, Element, Call, Number, Character, Paren}
 use Rattle.c_tree.specs.declared.syntax.BinaryOperator.{BinaryOperator}
 use Rattle.c_tree.specs.declared.syntax.BinaryOperator.TheVariants as binary
+use Rattle.c_tree.specs.declared.syntax.Arithmetic.TheVariants as arithmetic
 use Rattle.c_tree.specs.declared.syntax.AssignOperator.{AssignOperator}
 use Rattle.c_tree.specs.declared.syntax.AssignOperator.TheVariants as assign
 use Rattle.c_tree.specs.declared.syntax.TypeWords.{TypeWords}
 use Rattle.c_tree.specs.declared.syntax.TypeWords.TheVariants as words
 use Rattle.c_grammar.specs.declared.sign.Sign.{Sign}
 use Rattle.c_grammar.specs.declared.sign.Sign.TheVariants as sign
-
-abbrev pub place_in : {A : Type 0} → Expr-F A → At
-place_in (Comma at a b) = at
-place_in (Assign at a o b) = at
-place_in (Conditional at a b c) = at
-place_in (Binary at a o b) = at
-place_in (Cast at w e) = at
-place_in (Unary at o e) = at
-place_in (Before at o e) = at
-place_in (After at e o) = at
-place_in (Name at n) = at
-place_in (Element at n e) = at
-place_in (Call at n es) = at
-place_in (Number at v d u) = at
-place_in (Character at v) = at
-place_in (Paren at e) = at
-
--- the place of an expression's first token
-unfoldable pub place_of : Expr → At
-place_of e = place_in (out-Expr e)
 
 abbrev pub is_unary_in : {A : Type 0} → Expr-F A → Bool
 is_unary_in (Comma at a b) = false
@@ -67,16 +47,16 @@ binary_of _ = None
 
 unfoldable pub assign_of : Sign → Option AssignOperator
 assign_of sign.Assign = Some assign.Plain
-assign_of sign.AssignAdd = Some assign.Add
-assign_of sign.AssignSubtract = Some assign.Subtract
-assign_of sign.AssignMultiply = Some assign.Multiply
-assign_of sign.AssignDivide = Some assign.Divide
-assign_of sign.AssignRemainder = Some assign.Remainder
-assign_of sign.AssignAnd = Some assign.And
-assign_of sign.AssignXor = Some assign.Xor
-assign_of sign.AssignOr = Some assign.Or
-assign_of sign.AssignShiftLeft = Some assign.ShiftLeft
-assign_of sign.AssignShiftRight = Some assign.ShiftRight
+assign_of sign.AssignAdd = Some (assign.Compound arithmetic.Add)
+assign_of sign.AssignSubtract = Some (assign.Compound arithmetic.Subtract)
+assign_of sign.AssignMultiply = Some (assign.Compound arithmetic.Multiply)
+assign_of sign.AssignDivide = Some (assign.Compound arithmetic.Divide)
+assign_of sign.AssignRemainder = Some (assign.Compound arithmetic.Remainder)
+assign_of sign.AssignAnd = Some (assign.Compound arithmetic.And)
+assign_of sign.AssignXor = Some (assign.Compound arithmetic.Xor)
+assign_of sign.AssignOr = Some (assign.Compound arithmetic.Or)
+assign_of sign.AssignShiftLeft = Some (assign.Compound arithmetic.ShiftLeft)
+assign_of sign.AssignShiftRight = Some (assign.Compound arithmetic.ShiftRight)
 assign_of _ = None
 
 -- the type that the word alone stands for

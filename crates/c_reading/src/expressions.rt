@@ -38,7 +38,7 @@ pub fn expression(
     depth: usize,
     nesting: u32,
     tokens: &[Token],
-) -> Result<(Expr, u32, &[Token]), Fault>
+) -> Result<(Boxed<Expr>, u32, &[Token]), Fault>
     requires { nesting ≤ 201 }
     ensures reads { Reads (spec.read shallow depth spec.expr nesting (lexemes tokens.now)) result }
     ensures few { IfOk result (λ x. x.1 ≤ 201) }
@@ -54,10 +54,10 @@ pub fn expression(
 fn more_commas(
     alloc: Global,
     depth: usize,
-    e: Expr,
+    e: Boxed<Expr>,
     nesting: u32,
     tokens: &[Token],
-) -> Result<(Expr, u32, &[Token]), Fault>
+) -> Result<(Boxed<Expr>, u32, &[Token]), Fault>
     requires { nesting ≤ 201 }
     ensures reads { Reads (spec.read shallow depth (spec.after_comma e) nesting (lexemes tokens.now)) result }
     ensures few { IfOk result (λ x. x.1 ≤ 201) }
@@ -83,7 +83,7 @@ pub fn assignment(
     depth: usize,
     nesting: u32,
     tokens: &[Token],
-) -> Result<(Expr, &[Token]), Fault>
+) -> Result<(Boxed<Expr>, &[Token]), Fault>
     requires { nesting ≤ 201 }
     ensures reads { ReadsAt nesting (spec.read shallow depth spec.assign nesting (lexemes tokens.now)) result }
 {
@@ -101,10 +101,10 @@ pub fn assignment(
 fn after_left(
     alloc: Global,
     depth: usize,
-    e: Expr,
+    e: Boxed<Expr>,
     nesting: u32,
     tokens: &[Token],
-) -> Result<(Expr, u32, &[Token]), Fault>
+) -> Result<(Boxed<Expr>, u32, &[Token]), Fault>
     requires { nesting ≤ 201 }
     ensures reads { Reads (spec.after_left shallow (spec.read shallow depth) e nesting (lexemes tokens.now)) result }
     ensures few { IfOk result (λ x. x.1 ≤ 201) }
@@ -112,16 +112,13 @@ fn after_left(
     match assign_operator(peek(tokens)) {
         None => Ok((e, nesting, tokens)),
         Some(operator) => {
-            if !is_unary(&e) {
+            if !is_unary(e.get()) {
                 return Ok((e, nesting, tokens));
             }
             let tokens = eat(nesting, tokens)?;
             let (right, tokens) = assignment(alloc, depth, nesting + 1, tokens)?;
-            Ok((
-                nodes::assign(alloc, e, operator, right)?,
-                nesting + 1,
-                tokens,
-            ))
+            let e = nodes::assign(alloc, e, operator, right)?;
+            Ok((e, nesting + 1, tokens))
         }
     }
 }
@@ -132,7 +129,7 @@ pub fn conditional(
     depth: usize,
     nesting: u32,
     tokens: &[Token],
-) -> Result<(Expr, u32, &[Token]), Fault>
+) -> Result<(Boxed<Expr>, u32, &[Token]), Fault>
     requires { nesting ≤ 202 }
     ensures reads { Reads (spec.read shallow depth spec.conditional nesting (lexemes tokens.now)) result }
     ensures few { IfOk result (λ x. x.1 ≤ 201) }
@@ -145,11 +142,8 @@ pub fn conditional(
         Sign::Question => {
             let tokens = eat(nesting, tokens)?;
             let ((then, other), nesting, tokens) = branches(alloc, depth - 1, nesting + 1, tokens)?;
-            Ok((
-                nodes::conditional(alloc, test, then, other)?,
-                nesting,
-                tokens,
-            ))
+            let e = nodes::conditional(alloc, test, then, other)?;
+            Ok((e, nesting, tokens))
         }
         _ => Ok((test, nesting, tokens)),
     }
@@ -163,7 +157,7 @@ fn branches(
     depth: usize,
     nesting: u32,
     tokens: &[Token],
-) -> Result<((Expr, Expr), u32, &[Token]), Fault>
+) -> Result<((Boxed<Expr>, Boxed<Expr>), u32, &[Token]), Fault>
     requires { nesting ≤ 201 }
     ensures reads { Reads (spec.branches shallow (spec.read shallow depth) nesting (lexemes tokens.now)) result }
     ensures few { IfOk result (λ x. x.1 ≤ 201) }
@@ -182,7 +176,7 @@ fn operation(
     least: u32,
     nesting: u32,
     tokens: &[Token],
-) -> Result<(Expr, u32, &[Token]), Fault>
+) -> Result<(Boxed<Expr>, u32, &[Token]), Fault>
     requires { nesting ≤ 202 }
     ensures reads { Reads (spec.read shallow depth (spec.binary least) nesting (lexemes tokens.now)) result }
     ensures few { IfOk result (λ x. x.1 ≤ 201) }
@@ -199,10 +193,10 @@ fn more_operators(
     alloc: Global,
     depth: usize,
     least: u32,
-    e: Expr,
+    e: Boxed<Expr>,
     nesting: u32,
     tokens: &[Token],
-) -> Result<(Expr, u32, &[Token]), Fault>
+) -> Result<(Boxed<Expr>, u32, &[Token]), Fault>
     requires { nesting ≤ 201 }
     ensures reads { Reads (spec.read shallow depth (spec.after_operand least e) nesting (lexemes tokens.now)) result }
     ensures few { IfOk result (λ x. x.1 ≤ 201) }
@@ -237,7 +231,7 @@ fn operand(
     depth: usize,
     nesting: u32,
     tokens: &[Token],
-) -> Result<(Expr, u32, &[Token]), Fault>
+) -> Result<(Boxed<Expr>, u32, &[Token]), Fault>
     requires { nesting ≤ 202 }
     ensures reads { Reads (spec.read shallow depth spec.cast nesting (lexemes tokens.now)) result }
     ensures few { IfOk result (λ x. x.1 ≤ 201) }
@@ -264,7 +258,7 @@ fn cast_or_parenthesis(
     at: At,
     nesting: u32,
     tokens: &[Token],
-) -> Result<(Expr, u32, &[Token]), Fault>
+) -> Result<(Boxed<Expr>, u32, &[Token]), Fault>
     requires { nesting ≤ 200 }
     ensures reads { Reads (spec.cast_or_parenthesis shallow (spec.read shallow depth) at nesting (lexemes tokens.now)) result }
     ensures few { IfOk result (λ x. x.1 ≤ 201) }
@@ -275,11 +269,8 @@ fn cast_or_parenthesis(
             let (words, tokens) = type_words(nesting, tokens)?;
             let tokens = expect(Sign::RightParen, nesting, tokens)?;
             let (e, nesting, tokens) = operand(alloc, depth, nesting + 1, tokens)?;
-            Ok((
-                Expr::Cast(at, words, Boxed::new(alloc, e)?),
-                nesting,
-                tokens,
-            ))
+            let e = Boxed::new(alloc, Expr::Cast(at, words, e))?;
+            Ok((e, nesting, tokens))
         }
     }
 }
@@ -293,14 +284,14 @@ fn parenthesis(
     at: At,
     nesting: u32,
     tokens: &[Token],
-) -> Result<(Expr, u32, &[Token]), Fault>
+) -> Result<(Boxed<Expr>, u32, &[Token]), Fault>
     requires { nesting ≤ 200 }
     ensures reads { Reads (spec.parenthesis shallow (spec.read shallow depth) at nesting (lexemes tokens.now)) result }
     ensures few { IfOk result (λ x. x.1 ≤ 201) }
 {
     let (e, nesting, tokens) = expression(alloc, depth, nesting, tokens)?;
     let tokens = expect(Sign::RightParen, nesting, tokens)?;
-    let e = Expr::Paren(at, Boxed::new(alloc, e)?);
+    let e = Boxed::new(alloc, Expr::Paren(at, e))?;
     more_steps(alloc, depth, e, nesting, tokens)
 }
 
@@ -310,7 +301,7 @@ fn unary_operand(
     depth: usize,
     nesting: u32,
     tokens: &[Token],
-) -> Result<(Expr, u32, &[Token]), Fault>
+) -> Result<(Boxed<Expr>, u32, &[Token]), Fault>
     requires { nesting ≤ 202 }
     ensures reads { Reads (spec.read shallow depth spec.unary nesting (lexemes tokens.now)) result }
     ensures few { IfOk result (λ x. x.1 ≤ 201) }
@@ -344,17 +335,14 @@ fn stepped(
     operator: StepOperator,
     nesting: u32,
     tokens: &[Token],
-) -> Result<(Expr, u32, &[Token]), Fault>
+) -> Result<(Boxed<Expr>, u32, &[Token]), Fault>
     ensures reads { Reads (spec.stepped shallow (spec.read shallow depth) at operator nesting (lexemes tokens.now)) result }
     ensures few { IfOk result (λ x. x.1 ≤ 201) }
 {
     let tokens = eat(nesting, tokens)?;
     let (e, nesting, tokens) = unary_operand(alloc, depth, nesting + 1, tokens)?;
-    Ok((
-        Expr::Before(at, operator, Boxed::new(alloc, e)?),
-        nesting,
-        tokens,
-    ))
+    let e = Boxed::new(alloc, Expr::Before(at, operator, e))?;
+    Ok((e, nesting, tokens))
 }
 
 #[tactic(auto, unfolding(crate::specs::Expressions::signed))]
@@ -366,17 +354,14 @@ fn signed(
     operator: UnaryOperator,
     nesting: u32,
     tokens: &[Token],
-) -> Result<(Expr, u32, &[Token]), Fault>
+) -> Result<(Boxed<Expr>, u32, &[Token]), Fault>
     ensures reads { Reads (spec.signed shallow (spec.read shallow depth) at operator nesting (lexemes tokens.now)) result }
     ensures few { IfOk result (λ x. x.1 ≤ 201) }
 {
     let tokens = eat(nesting, tokens)?;
     let (e, nesting, tokens) = operand(alloc, depth, nesting + 1, tokens)?;
-    Ok((
-        Expr::Unary(at, operator, Boxed::new(alloc, e)?),
-        nesting,
-        tokens,
-    ))
+    let e = Boxed::new(alloc, Expr::Unary(at, operator, e))?;
+    Ok((e, nesting, tokens))
 }
 
 #[tactic(auto, unfolding(crate::specs::Expressions::primary, crate::specs::Parsers::word_at))]
@@ -387,7 +372,7 @@ fn primary(
     at: At,
     nesting: u32,
     tokens: &[Token],
-) -> Result<(Expr, u32, &[Token]), Fault>
+) -> Result<(Boxed<Expr>, u32, &[Token]), Fault>
     ensures reads { Reads (spec.primary shallow (spec.read shallow depth) at nesting (lexemes tokens.now)) result }
     ensures few { IfOk result (λ x. x.1 ≤ 201) }
 {
@@ -405,17 +390,12 @@ fn primary(
             decimal,
             unsigned,
         } => {
-            let e = Expr::Number {
-                at,
-                value: *value,
-                decimal: *decimal,
-                unsigned: *unsigned,
-            };
+            let e = nodes::number(alloc, at, *value, *decimal, *unsigned)?;
             let tokens = eat(nesting, tokens)?;
             more_steps(alloc, depth, e, nesting, tokens)
         }
         TokenKind::Character(value) => {
-            let e = Expr::Character(at, *value);
+            let e = Boxed::new(alloc, Expr::Character(at, *value))?;
             let tokens = eat(nesting, tokens)?;
             more_steps(alloc, depth, e, nesting, tokens)
         }
@@ -433,7 +413,7 @@ fn named(
     name: Items<u8>,
     nesting: u32,
     tokens: &[Token],
-) -> Result<(Expr, u32, &[Token]), Fault>
+) -> Result<(Boxed<Expr>, u32, &[Token]), Fault>
     requires { nesting ≤ 200 }
     ensures reads { Reads (spec.named shallow (spec.read shallow depth) at name nesting (lexemes tokens.now)) result }
     ensures few { IfOk result (λ x. x.1 ≤ 201) }
@@ -443,7 +423,7 @@ fn named(
             let tokens = eat(nesting, tokens)?;
             let (index, nesting, tokens) = expression(alloc, depth, nesting, tokens)?;
             let tokens = expect(Sign::RightBracket, nesting, tokens)?;
-            let e = Expr::Element(at, name, Boxed::new(alloc, index)?);
+            let e = Boxed::new(alloc, Expr::Element(at, name, index))?;
             more_steps(alloc, depth, e, nesting, tokens)
         }
         Sign::LeftParen => {
@@ -451,7 +431,10 @@ fn named(
             let (e, tokens) = called(alloc, depth, at, name, nesting, tokens)?;
             more_steps(alloc, depth, e, nesting, tokens)
         }
-        _ => more_steps(alloc, depth, Expr::Name(at, name), nesting, tokens),
+        _ => {
+            let e = Boxed::new(alloc, Expr::Name(at, name))?;
+            more_steps(alloc, depth, e, nesting, tokens)
+        }
     }
 }
 
@@ -465,14 +448,15 @@ fn called(
     name: Items<u8>,
     nesting: u32,
     tokens: &[Token],
-) -> Result<(Expr, &[Token]), Fault>
+) -> Result<(Boxed<Expr>, &[Token]), Fault>
     requires { nesting ≤ 200 }
     ensures reads { ReadsAt nesting (spec.called shallow (spec.read shallow depth) at name nesting (lexemes tokens.now)) result }
 {
     match peek(tokens) {
         Sign::RightParen => {
             let tokens = eat(nesting, tokens)?;
-            Ok((Expr::Call(at, name, Items::new(alloc)), tokens))
+            let e = Boxed::new(alloc, Expr::Call(at, name, Items::new(alloc)))?;
+            Ok((e, tokens))
         }
         _ => arguments(alloc, depth, at, name, nesting, tokens),
     }
@@ -487,7 +471,7 @@ fn arguments(
     name: Items<u8>,
     nesting: u32,
     tokens: &[Token],
-) -> Result<(Expr, &[Token]), Fault>
+) -> Result<(Boxed<Expr>, &[Token]), Fault>
     requires { nesting ≤ 200 }
     ensures reads { ReadsAt nesting (spec.read shallow depth (spec.in_call at name []) nesting (lexemes tokens.now)) result }
 {
@@ -496,10 +480,11 @@ fn arguments(
     while depth > 0 {
         depth -= 1;
         let (e, behind) = assignment(alloc, depth, nesting, rest)?;
-        arguments.push(e)?;
+        nodes::push(&mut arguments, e)?;
         let (goes_on, behind) = more(Sign::RightParen, nesting, behind)?;
         if !goes_on {
-            return Ok((Expr::Call(at, name, arguments), behind));
+            let e = Boxed::new(alloc, Expr::Call(at, name, arguments))?;
+            return Ok((e, behind));
         }
         rest = behind;
     }
@@ -511,10 +496,10 @@ fn arguments(
 fn more_steps(
     alloc: Global,
     depth: usize,
-    e: Expr,
+    e: Boxed<Expr>,
     nesting: u32,
     tokens: &[Token],
-) -> Result<(Expr, u32, &[Token]), Fault>
+) -> Result<(Boxed<Expr>, u32, &[Token]), Fault>
     requires { nesting ≤ 201 }
     ensures reads { Reads (spec.read shallow depth (spec.after_postfix e) nesting (lexemes tokens.now)) result }
     ensures few { IfOk result (λ x. x.1 ≤ 201) }
@@ -539,11 +524,11 @@ fn more_steps(
 fn stepped_behind(
     alloc: Global,
     depth: usize,
-    e: Expr,
+    e: Boxed<Expr>,
     operator: StepOperator,
     nesting: u32,
     tokens: &[Token],
-) -> Result<(Expr, u32, &[Token]), Fault>
+) -> Result<(Boxed<Expr>, u32, &[Token]), Fault>
     ensures reads { Reads (spec.stepped_behind shallow (spec.read shallow depth) e operator nesting (lexemes tokens.now)) result }
     ensures few { IfOk result (λ x. x.1 ≤ 201) }
 {

@@ -1,19 +1,20 @@
-//! The reading of the tokens of a C source (C11 6.5 to 6.9), by one token of lookahead.
+//! The reading of expressions from the tokens of a C source (C11 6.5), by one token of lookahead, and
+//! the steps over tokens of which all readings are made.
 //!
-//! `read` gives the tree of the program that the tokens spell, or the first token that continues
-//! no program or stands deeper than 200. It equals a reading that is defined on lists of words by
-//! one step that is no recursion, and by a bound on the calls; the bound that it takes never runs
-//! out. The recursion of the code is bounded by the nesting, and lists are read by loops.
+//! Each function equals a reading that is defined on lists of words by one step that is no
+//! recursion, and by a bound on the calls: it gives what the tokens spell, how deep the next token
+//! stands and the tokens that are left, or the first token that continues no program or stands
+//! deeper than 200. The recursion of the code is bounded by the nesting, and lists are read by loops.
 #![tactic(auto)]
 
-mod declarations;
 mod expressions;
 mod fault;
 mod nodes;
-mod program;
-mod statements;
 mod tokens;
 mod trees;
 
+pub use expressions::{assignment, conditional, expression, type_words};
 pub use fault::Fault;
-pub use program::read;
+pub use nodes::{push, unboxed};
+pub use tokens::{eat, expect, more, name, name_if_any, peek, place};
+pub use trees::begins_declaration;

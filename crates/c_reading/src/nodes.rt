@@ -1,70 +1,105 @@
-//! Nodes over expressions that were read.
+//! Nodes of trees. A tree is boxed once, where it is built, and handed on in its box.
 
-ghost use Rattle.std.specs.Prelude.{◌≡◌, IfOk};
+ghost use Rattle.std.specs.Prelude.{◌≡◌, ◌++◌, ◌∷◌, [], IfOk, OnOk};
 ghost use Rattle.c_tree.specs.declared.syntax.Expr.TheVariants as tree;
-ghost use Rattle.c_reading.specs.Trees.{place_of};
+ghost use Rattle.c_tree.specs.Places.{place_of};
 
-use crate::trees::place_of;
+use c_tree::At;
 use c_tree::syntax::{AssignOperator, BinaryOperator, Expr, StepOperator};
-use sqlite_items::Boxed;
+use sqlite_items::{Boxed, Items};
 use std::alloc::{AllocError, Global};
 
-pub fn comma(alloc: Global, left: Expr, right: Expr) -> Result<Expr, AllocError>
+pub fn comma(
+    alloc: Global,
+    left: Boxed<Expr>,
+    right: Boxed<Expr>,
+) -> Result<Boxed<Expr>, AllocError>
     ensures { IfOk result (λ e. e ≡ tree.Comma (place_of left) left right) }
 {
-    let at = place_of(&left);
-    Ok(Expr::Comma(at, Boxed::new(alloc, left)?, Boxed::new(alloc, right)?))
+    let at = left.get().place();
+    Boxed::new(alloc, Expr::Comma(at, left, right))
 }
 
 pub fn assign(
     alloc: Global,
-    left: Expr,
+    left: Boxed<Expr>,
     operator: AssignOperator,
-    right: Expr,
-) -> Result<Expr, AllocError>
+    right: Boxed<Expr>,
+) -> Result<Boxed<Expr>, AllocError>
     ensures { IfOk result (λ e. e ≡ tree.Assign (place_of left) left operator right) }
 {
-    let at = place_of(&left);
-    Ok(Expr::Assign(
-        at,
-        Boxed::new(alloc, left)?,
-        operator,
-        Boxed::new(alloc, right)?,
-    ))
+    let at = left.get().place();
+    Boxed::new(alloc, Expr::Assign(at, left, operator, right))
 }
 
 pub fn binary(
     alloc: Global,
-    left: Expr,
+    left: Boxed<Expr>,
     operator: BinaryOperator,
-    right: Expr,
-) -> Result<Expr, AllocError>
+    right: Boxed<Expr>,
+) -> Result<Boxed<Expr>, AllocError>
     ensures { IfOk result (λ e. e ≡ tree.Binary (place_of left) left operator right) }
 {
-    let at = place_of(&left);
-    Ok(Expr::Binary(
-        at,
-        Boxed::new(alloc, left)?,
-        operator,
-        Boxed::new(alloc, right)?,
-    ))
+    let at = left.get().place();
+    Boxed::new(alloc, Expr::Binary(at, left, operator, right))
 }
 
-pub fn conditional(alloc: Global, test: Expr, then: Expr, other: Expr) -> Result<Expr, AllocError>
+pub fn conditional(
+    alloc: Global,
+    test: Boxed<Expr>,
+    then: Boxed<Expr>,
+    other: Boxed<Expr>,
+) -> Result<Boxed<Expr>, AllocError>
     ensures { IfOk result (λ e. e ≡ tree.Conditional (place_of test) test then other) }
 {
-    let at = place_of(&test);
-    Ok(Expr::Conditional(
-        at,
-        Boxed::new(alloc, test)?,
-        Boxed::new(alloc, then)?,
-        Boxed::new(alloc, other)?,
-    ))
+    let at = test.get().place();
+    Boxed::new(alloc, Expr::Conditional(at, test, then, other))
 }
 
-pub fn after(alloc: Global, e: Expr, operator: StepOperator) -> Result<Expr, AllocError>
+pub fn after(
+    alloc: Global,
+    e: Boxed<Expr>,
+    operator: StepOperator,
+) -> Result<Boxed<Expr>, AllocError>
     ensures { IfOk result (λ x. x ≡ tree.After (place_of e) e operator) }
 {
-    let at = place_of(&e);
-    Ok(Expr::After(at, Boxed::new(alloc, e)?, operator))
+    let at = e.get().place();
+    Boxed::new(alloc, Expr::After(at, e, operator))
+}
+
+pub fn number(
+    alloc: Global,
+    at: At,
+    value: u64,
+    decimal: bool,
+    unsigned: bool,
+) -> Result<Boxed<Expr>, AllocError>
+    ensures { IfOk result (λ e. e ≡ tree.Number at value decimal unsigned) }
+{
+    Boxed::new(
+        alloc,
+        Expr::Number {
+            at,
+            value,
+            decimal,
+            unsigned,
+        },
+    )
+}
+
+/// Adds a tree to a list.
+pub fn push<T: Drop>(list: &mut Items<T>, item: Boxed<T>) -> Result<(), AllocError>
+    ensures { OnOk result (list.new ≡ list.old ++ item ∷ []) }
+{
+    list.push(item.into_inner())
+}
+
+/// What is in a box, if there is one.
+pub fn unboxed<T>(item: Option<Boxed<T>>) -> Option<T>
+    ensures { result ≡ item }
+{
+    match item {
+        None => None,
+        Some(item) => Some(item.into_inner()),
+    }
 }

@@ -5,31 +5,7 @@ ghost use Rattle.c_grammar.specs.Operators.{precedence};
 ghost use Rattle.c_reading.specs.Trees as spec;
 
 use c_grammar::Sign;
-use c_tree::At;
-use c_tree::syntax::{AssignOperator, BinaryOperator, Expr, TypeWords};
-
-/// The place of an expression's first token.
-#[tactic(auto, unfolding(crate::specs::Trees::place_of))]
-pub fn place_of(e: &Expr) -> At
-    ensures { result ≡ spec.place_of e.now }
-{
-    match e {
-        Expr::Comma(at, ..)
-        | Expr::Assign(at, ..)
-        | Expr::Conditional(at, ..)
-        | Expr::Binary(at, ..)
-        | Expr::Cast(at, ..)
-        | Expr::Unary(at, ..)
-        | Expr::Before(at, ..)
-        | Expr::After(at, ..)
-        | Expr::Name(at, ..)
-        | Expr::Element(at, ..)
-        | Expr::Call(at, ..)
-        | Expr::Number { at, .. }
-        | Expr::Character(at, ..)
-        | Expr::Paren(at, ..) => *at,
-    }
-}
+use c_tree::syntax::{Arithmetic, AssignOperator, BinaryOperator, Expr, TypeWords};
 
 /// Whether it is a unary expression (C11 6.5.3), which may stand on the left of an assignment.
 #[tactic(auto, unfolding(crate::specs::Trees::is_unary))]
@@ -100,16 +76,16 @@ pub fn assign_operator(sign: Sign) -> Option<AssignOperator>
 {
     match sign {
         Sign::Assign => Some(AssignOperator::Plain),
-        Sign::AssignAdd => Some(AssignOperator::Add),
-        Sign::AssignSubtract => Some(AssignOperator::Subtract),
-        Sign::AssignMultiply => Some(AssignOperator::Multiply),
-        Sign::AssignDivide => Some(AssignOperator::Divide),
-        Sign::AssignRemainder => Some(AssignOperator::Remainder),
-        Sign::AssignAnd => Some(AssignOperator::And),
-        Sign::AssignXor => Some(AssignOperator::Xor),
-        Sign::AssignOr => Some(AssignOperator::Or),
-        Sign::AssignShiftLeft => Some(AssignOperator::ShiftLeft),
-        Sign::AssignShiftRight => Some(AssignOperator::ShiftRight),
+        Sign::AssignAdd => Some(AssignOperator::Compound(Arithmetic::Add)),
+        Sign::AssignSubtract => Some(AssignOperator::Compound(Arithmetic::Subtract)),
+        Sign::AssignMultiply => Some(AssignOperator::Compound(Arithmetic::Multiply)),
+        Sign::AssignDivide => Some(AssignOperator::Compound(Arithmetic::Divide)),
+        Sign::AssignRemainder => Some(AssignOperator::Compound(Arithmetic::Remainder)),
+        Sign::AssignAnd => Some(AssignOperator::Compound(Arithmetic::And)),
+        Sign::AssignXor => Some(AssignOperator::Compound(Arithmetic::Xor)),
+        Sign::AssignOr => Some(AssignOperator::Compound(Arithmetic::Or)),
+        Sign::AssignShiftLeft => Some(AssignOperator::Compound(Arithmetic::ShiftLeft)),
+        Sign::AssignShiftRight => Some(AssignOperator::Compound(Arithmetic::ShiftRight)),
         _ => None,
     }
 }

@@ -9,6 +9,3 @@ pub mod law;
 mod source;
 
 pub use source::tree_of;
-
-#[cfg(test)]
-mod tests;

@@ -21,8 +21,8 @@ conditional-returns-in_err-tokens-in-Question-clause-reads t c = rw (deeper shal
 pub conditional-returns-in_err-then-in-Question-clause-reads : goal.conditional-returns-in_err-then-in-Question-clause-reads
 conditional-returns-in_err-then-in-Question-clause-reads t c = rw (deeper shallow c.args.depth spec.conditional c.args.nesting (lexemes c.args.tokens.now) (omega arith)) (search rules)
 
-pub conditional-returns-in_ok-conditional-in-Question-clause-reads : goal.conditional-returns-in_ok-conditional-in-Question-clause-reads
-conditional-returns-in_ok-conditional-in-Question-clause-reads t c = rw (deeper shallow c.args.depth spec.conditional c.args.nesting (lexemes c.args.tokens.now) (omega arith)) (search rules)
+pub conditional-returns-in_ok-e-in-Question-clause-reads : goal.conditional-returns-in_ok-e-in-Question-clause-reads
+conditional-returns-in_ok-e-in-Question-clause-reads t c = rw (deeper shallow c.args.depth spec.conditional c.args.nesting (lexemes c.args.tokens.now) (omega arith)) (search rules)
 
 pub conditional-returns-in_default-clause-reads : goal.conditional-returns-in_default-clause-reads
 conditional-returns-in_default-clause-reads t c = rw (deeper shallow c.args.depth spec.conditional c.args.nesting (lexemes c.args.tokens.now) (omega arith)) (search rules)

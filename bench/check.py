@@ -1,5 +1,5 @@
 #!/usr/bin/env python3
-"""Times `./vpo check`, the proved program, on growing descriptions, and prints a table with the ratios of one run.
+"""Times `vpo check`, the proved program that `./vpo --prove` builds, on growing descriptions, and prints a table with the ratios of one run.
 
 Each description is examples/duo.vpo with rows of 200 bytes behind it. In the first kind the rows differ in their first token, in the
 second in their last token alone, so that a comparison of two rows goes through both. In the third kind the last row breaks rule 13,
@@ -48,7 +48,7 @@ def seconds(path, status):
     times = []
     for _ in range(RUNS):
         begin = time.perf_counter()
-        done = subprocess.run([os.path.join(ROOT, "vpo"), "check", path], capture_output=True)
+        done = subprocess.run([os.path.join(ROOT, ".build", "vpo"), "check", path], capture_output=True)
         times.append(time.perf_counter() - begin)
         if done.returncode != status:
             sys.exit(f"{path}: status {done.returncode}, not {status}: {done.stdout + done.stderr!r}")
@@ -56,6 +56,7 @@ def seconds(path, status):
 
 
 def main():
+    subprocess.run([os.path.join(ROOT, "vpo"), "--prove"], check=True)
     with open(os.path.join(ROOT, "examples", "duo.vpo")) as file:
         base = file.read()
     base_rows = 36

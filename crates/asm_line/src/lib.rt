@@ -11,8 +11,6 @@ pub mod law;
 mod line;
 mod printing;
 mod shown;
-#[cfg(test)]
-mod tests;
 mod writing;
 
 pub use line::LineBuf;

@@ -43,10 +43,7 @@ fn name_at(names: &NameList, place: u16) -> Option<&[u8]>
     ensures long { IfSome result (λ name. length name.now ≤ 63) }
     ensures none { IfNone result (slice_get names.now place ≡ None) }
 {
-    match names.get(usize::from(place)) {
-        Some(name) => Some(name.bytes()),
-        None => None,
-    }
+    names.get(usize::from(place))
 }
 
 fn of_register(registers: &[Register], class: u64, number: u8) -> Shown<'_>

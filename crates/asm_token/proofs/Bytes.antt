@@ -1,6 +1,6 @@
 -- The classes of bytes are apart.
-use Rattle.std.proofs.Common.{◌≡◌, ℕ, ◌<◌, ◌≤◌, true, false, eqb, arith}
-use Rattle.std.proofs.lemmas.Bool.{and_parts, leb-true, eqb-false, or_left, or_right, or_parts}
+use Rattle.std.proofs.Common.{◌≡◌, ℕ, ◌<◌, true, false, eqb, arith}
+use Rattle.std.proofs.lemmas.Bool.{and_parts, leb-true, or_left, or_right, or_parts}
 use Rattle.std.proofs.lemmas.Bool.Decides.{nat_tests}
 use Rattle.std.specs.Char.{is_ascii_digit}
 use Rattle.asm_token.specs.Tokens.{is_name_start, is_name_byte, is_mark}
@@ -42,9 +42,3 @@ no_name_no_digit b h = (or_parts (is_name_start b) (is_ascii_digit b) h).1
 
 pub digit_range : (b : ℕ) → is_ascii_digit b ≡ true → IsInRange 48 57 b
 digit_range b h = (omega (arith, leb-true 48 b (and_parts _ _ h).0), omega (arith, leb-true b 57 (and_parts _ _ h).1))
-
-pub one_to_nine : (b : ℕ) → 49 ≤ b → b ≤ 57 → is_nonzero_digit b ≡ true
-one_to_nine b l h = grind (arith, nat_tests)
-
-pub nonzero_range : (b : ℕ) → is_nonzero_digit b ≡ true → IsInRange 49 57 b
-nonzero_range b h = (omega (arith, eqb-false b 48 (nonzero_no_zero b h), (digit_range b (nonzero_is_digit b h)).0), (digit_range b (nonzero_is_digit b h)).1)

@@ -87,11 +87,6 @@ next_token gap t rest _ _ apart k l (one_token u cs ts i m h) e =
 pub past_token : (gap : ℕ → Bool) (text : List ℕ) (t : Token) (n : ℕ) (ts : List Token) → IsGap gap → LongestToken text t n → Spells gap text ts → Next gap t (drop n text) ts
 past_token gap text t n ts apart l h = next_token gap t (drop n text) text ts apart l.is_token l.longest h l.spelled
 
-pub before_token : (gap : ℕ → Bool) (text : List ℕ) (t : Token) (n : ℕ) (ts : List Token) → LongestToken text t n → Spells gap (drop n text) ts → Spells gap text (t ∷ ts)
-before_token gap text t n ts l h =
-    let P : List ℕ → Type 0 = λ ds. Spells gap ds (t ∷ ts) in
-    subst P (sym l.spelled) (one_token t (drop n text) ts l.is_token l.longest h)
-
 -- where neither a token nor a gap begins, the text spells nothing
 no_list : (gap : ℕ → Bool) (b : ℕ) (bs cs : List ℕ) (ts : List Token) → gap b ≡ false → BeginsNoToken (b ∷ bs) → Spells gap cs ts → cs ≡ b ∷ bs → ⊥
 no_list gap b bs _ _ g none at_end e = cc

@@ -11,6 +11,4 @@
 #![tactic(auto)]
 
 pub mod law;
-#[cfg(test)]
-mod tests;
 pub mod token;

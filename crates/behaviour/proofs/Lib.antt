@@ -5,3 +5,5 @@ pub mod Reaching
 pub mod Stepping
 pub mod Simulation
 pub mod Different
+pub mod Stuttering
+mod Counting

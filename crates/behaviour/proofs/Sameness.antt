@@ -1,7 +1,7 @@
 -- `Same` and `Keep` are reflexive and transitive.
 use Rattle.std.proofs.Common.{ℕ, List, ap}
 use Rattle.behaviour.specs.Behaviour.{Behaviour, Running, Ended, Failed, output}
-use Rattle.behaviour.specs.Run.{Run, NeverFails, Allows, Same, Keep}
+use Rattle.behaviour.specs.Run.{Run, NeverFails, Allows, Same, AreBytes, Keep}
 use Rattle.behaviour.specs.Laws.{SameIsReflexive, SameIsTransitive, SameEndsAlike, KeepIsReflexive, KeepIsTransitive, KeepKeepsSame}
 use Rattle.behaviour.proofs.Prefix.{prefix_refl, prefix_trans}
 use Rattle.behaviour.proofs.Growth.{one_end}
@@ -55,17 +55,18 @@ same_ends_alike source target is same n m out out' status status' e f =
     (ap output one, ap status_of one)
 
 -- to keep a program is to be the same where it never fails
-pub keep_of_same : (new old : List ℕ → Run) → ((input : List ℕ) → NeverFails (old input) → Same (old input) (new input)) → Keep new old
+pub keep_of_same : (new old : List ℕ → Run) → ((input : List ℕ) → AreBytes input → NeverFails (old input) → Same (old input) (new input)) → Keep new old
 keep_of_same new old same = record {
-  never_fails = λ input never. target_never_fails _ _ (same input never);
+  never_fails = λ input bytes never. target_never_fails _ _ (same input bytes never);
   same = same;
 }
 
 pub keep_refl : KeepIsReflexive
-keep_refl program = keep_of_same program program (λ input. same_refl (program input))
+keep_refl program = keep_of_same program program (λ input bytes. same_refl (program input))
 
 pub keep_trans : KeepIsTransitive
-keep_trans old middle new first second = keep_of_same new old (λ input never. same_trans _ _ _ (first.same input never) (second.same input (first.never_fails input never)))
+keep_trans old middle new first second =
+    keep_of_same new old (λ input bytes never. same_trans _ _ _ (first.same input bytes never) (second.same input bytes (first.never_fails input bytes never)))
 
 pub same_keep : KeepKeepsSame
-same_keep source old new input same keep = same_trans _ _ _ same (keep.same input (target_never_fails _ _ same))
+same_keep source old new input bytes same keep = same_trans _ _ _ same (keep.same input bytes (target_never_fails _ _ same))

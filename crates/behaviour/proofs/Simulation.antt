@@ -1,7 +1,7 @@
 -- A machine that simulates another does the same.
 use Rattle.std.proofs.Common.{◌≡◌, ℕ, zero, suc, ◌+◌, List, refl, sym, ap, ◌∙◌, arith}
 use Rattle.behaviour.specs.Behaviour.{Running, Ended}
-use Rattle.behaviour.specs.Run.{NeverFails, Same, Keep, Reach, both_run, both_end}
+use Rattle.behaviour.specs.Run.{NeverFails, Same, AreBytes, Keep, Reach, both_run, both_end}
 use Rattle.behaviour.specs.Steps.{Move, Goes, Stops, Fails, Machine, OnlyPrints, run, Leads, Comes, Diagram, both_lead, both_stop, source_fails, Simulates, MovesAlike, Lockstep}
 use Rattle.behaviour.proofs.Reaching.{reach_same}
 use Rattle.behaviour.proofs.Sameness.{keep_of_same, same_trans, target_never_fails}
@@ -26,14 +26,14 @@ module _ (M N : Machine) (R : M.State → N.State → Type 0) (sim : Simulates M
     simulation_same s t r never = reach_same _ _ (run_is_run M only_M s) (run_is_run N only_N t) (λ i. simulation_reach i s t r never)
 
     -- programs that start in related states
-    pub simulation_keep : (start : List ℕ → M.State) (start' : List ℕ → N.State) → ((input : List ℕ) → R (start input) (start' input)) → Keep (λ input. run N (start' input)) (λ input. run M (start input))
-    simulation_keep start start' related = keep_of_same _ _ (λ input. simulation_same (start input) (start' input) (related input))
+    pub simulation_keep : (start : List ℕ → M.State) (start' : List ℕ → N.State) → ((input : List ℕ) → AreBytes input → R (start input) (start' input)) → Keep (λ input. run N (start' input)) (λ input. run M (start input))
+    simulation_keep start start' related = keep_of_same _ _ (λ input bytes. simulation_same (start input) (start' input) (related input bytes))
 
     -- the target first goes some steps
     pub simulation_keep_after : (start : List ℕ → M.State) (start' begun : List ℕ → N.State) → ((input : List ℕ) → Comes N (start' input) (begun input))
-        → ((input : List ℕ) → R (start input) (begun input)) → Keep (λ input. run N (start' input)) (λ input. run M (start input))
-    simulation_keep_after start start' begun comes related = keep_of_same _ _ (λ input never.
-        let same = simulation_same (start input) (begun input) (related input) never in
+        → ((input : List ℕ) → AreBytes input → R (start input) (begun input)) → Keep (λ input. run N (start' input)) (λ input. run M (start input))
+    simulation_keep_after start start' begun comes related = keep_of_same _ _ (λ input bytes never.
+        let same = simulation_same (start input) (begun input) (related input bytes) never in
         same_trans _ _ _ same (comes_same_back N only_N (start' input) (begun input) (comes input) (target_never_fails _ _ same)))
 
 module _ (M N : Machine) (R : M.State → N.State → Type 0) where

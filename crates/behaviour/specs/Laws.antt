@@ -1,7 +1,7 @@
 -- Laws of runs.
 use Rattle.std.specs.Prelude.{◌≡◌, ◌↔◌, ℕ, List}
 use Rattle.behaviour.specs.Behaviour.{Behaviour, Ended}
-use Rattle.behaviour.specs.Run.{Run, IsRun, NeverFails, Same, Keep, constant, Reach, IsFollowedBy}
+use Rattle.behaviour.specs.Run.{Run, IsRun, NeverFails, Same, AreBytes, Keep, constant, Reach, IsFollowedBy}
 
 abbrev pub ConstantIsRun : Type 0
 ConstantIsRun = (seen : Behaviour) → IsRun (constant seen)
@@ -47,4 +47,4 @@ KeepIsTransitive = (old middle new : List ℕ → Run) → Keep middle old → K
 abbrev pub KeepKeepsSame : Type 0
 KeepKeepsSame =
     (source : Run) (old new : List ℕ → Run) (input : List ℕ)
-    → Same source (old input) → Keep new old → Same source (new input)
+    → AreBytes input → Same source (old input) → Keep new old → Same source (new input)

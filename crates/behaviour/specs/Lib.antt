@@ -3,3 +3,4 @@ pub mod Run
 pub mod Steps
 pub mod Laws
 pub mod Counterexamples
+pub mod Examples

@@ -1,5 +1,6 @@
 -- Runs of programs, and when a target does what its source does.
-use Rattle.std.specs.Prelude.{◌≡◌, ◌≢◌, ℕ, ◌≤◌, List}
+use Rattle.std.specs.Prelude.{◌≡◌, ◌≢◌, ℕ, ◌≤◌, ◌<◌, List}
+use Rattle.std.specs.List.{All}
 use Rattle.behaviour.specs.Behaviour.{Wrong, Behaviour, Running, Ended, Failed, output, IsPrefix, IsExtendedBy}
 
 -- what is seen at each bound
@@ -22,19 +23,32 @@ pub record Allows (source : Run) (seen : Behaviour) : Type 0 where
   pub no_other_output : (n : ℕ) × IsPrefix (output seen) (output (source n))
   pub no_other_end : (out : List ℕ) (status : ℕ) → seen ≡ Ended out status → (n : ℕ) × (source n ≡ Ended out status)
 
+-- where the source ends, the target ends alike
+abbrev pub EndsAlike : Run → Run → Type 0
+EndsAlike source target = (n : ℕ) (out : List ℕ) (status : ℕ) → source n ≡ Ended out status → (m : ℕ) × (target m ≡ Ended out status)
+
+-- the target never fails, prints nothing else, and ends only as the source does
+abbrev pub DoesNothingElse : Run → Run → Type 0
+DoesNothingElse source target = (m : ℕ) → Allows source (target m)
+
+-- all that the source prints, the target prints
+abbrev pub PrintsAll : Run → Run → Type 0
+PrintsAll source target = (n : ℕ) → (m : ℕ) × IsPrefix (output (source n)) (output (target m))
+
 -- the target does what its source does; of use for sources that never fail
 pub record Same (source target : Run) : Type 0 where
-  -- 1. where the source ends, the target ends alike
-  pub ends : (n : ℕ) (out : List ℕ) (status : ℕ) → source n ≡ Ended out status → (m : ℕ) × (target m ≡ Ended out status)
-  -- 2. the target never fails, prints nothing else, and ends only as the source does
-  pub nothing_else : (m : ℕ) → Allows source (target m)
-  -- 3. all that the source prints, the target prints
-  pub prints : (n : ℕ) → (m : ℕ) × IsPrefix (output (source n)) (output (target m))
+  pub ends : EndsAlike source target
+  pub nothing_else : DoesNothingElse source target
+  pub prints : PrintsAll source target
 
--- on each input on which the old program never fails, the new one doesn't either, and does the same
+-- what a program reads is a list of bytes
+abbrev pub AreBytes : List ℕ → Type 0
+AreBytes input = All (λ byte. byte < 256) input
+
+-- on each input of bytes on which the old program never fails, the new one doesn't either, and does the same
 pub record Keep (new old : List ℕ → Run) : Type 0 where
-  pub never_fails : (input : List ℕ) → NeverFails (old input) → NeverFails (new input)
-  pub same : (input : List ℕ) → NeverFails (old input) → Same (old input) (new input)
+  pub never_fails : (input : List ℕ) → AreBytes input → NeverFails (old input) → NeverFails (new input)
+  pub same : (input : List ℕ) → AreBytes input → NeverFails (old input) → Same (old input) (new input)
 
 -- both runs come at least as far as the bound with the same output, or both end alike
 pub data Reach (bound : ℕ) (a b : Run) : Type 0 where

@@ -1,5 +1,5 @@
 -- Machines that go step by step, and when one simulates another.
-use Rattle.std.specs.Prelude.{◌≡◌, ℕ, zero, suc, ◌+◌, ◌<◌, List}
+use Rattle.std.specs.Prelude.{◌≡◌, ℕ, zero, suc, ◌+◌, ◌<◌, ◌⊎◌, List}
 use Rattle.behaviour.specs.Behaviour.{Wrong, Behaviour, Running, Ended, Failed, IsPrefix}
 use Rattle.behaviour.specs.Run.{Run}
 
@@ -73,3 +73,14 @@ MovesAlike R (Fails out why) y = Unit {0}
 pub record Lockstep (M N : Machine) (R : M.State → N.State → Type 0) : Type 0 where
   pub same_output : (s : M.State) (t : N.State) → R s t → M.printed s ≡ N.printed t
   pub moves : (s : M.State) (t : N.State) → R s t → MovesAlike R (M.step s) (N.step t)
+
+-- what the target does about a step of the source: it takes one step or more, or none while a size of the source's state falls
+abbrev pub IsMatched : (M N : Machine) → (M.State → N.State → Type 0) → (M.State → ℕ) → Move M.State → ℕ → N.State → Type 0
+IsMatched M N R size (Goes s') n t = (t' : N.State) × R s' t' × (Leads N t t' ⊎ ((t' ≡ t) × (size s' < n)))
+IsMatched M N R size (Stops out status) n t = (m : ℕ) × (run N t m ≡ Ended out status)
+IsMatched M N R size (Fails out why) n t = Unit {0}
+
+-- a simulation of each step by several steps or none
+pub record Stuttering (M N : Machine) (R : M.State → N.State → Type 0) (size : M.State → ℕ) : Type 0 where
+  pub same_output : (s : M.State) (t : N.State) → R s t → M.printed s ≡ N.printed t
+  pub matches : (s : M.State) (t : N.State) → R s t → IsMatched M N R size (M.step s) (size s) t

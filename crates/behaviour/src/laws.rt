@@ -7,7 +7,7 @@ pub fn constant_is_run()
     ensures { ConstantIsRun }
 {}
 
-/// `Same` is of use only for sources that never fail.
+/// `Same` is reflexive on runs that never fail, and on no others.
 pub fn same_is_reflexive()
     ensures { SameIsReflexive }
 {}

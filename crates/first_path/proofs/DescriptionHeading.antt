@@ -1,11 +1,11 @@
 -- What the lines of a heading say is one thing at most.
-use Rattle.std.proofs.Common.{◌≡◌, ℕ, ◌^◌, ◌<◌, ◌≤◌, Bool, true, false, cond, eqb, Option, Some, None, List, [], ◌∷◌, ◌++◌, refl, sym, ap, subst, ◌∙◌, arith, inl, inr, ◌⊎◌, IfNone, codes, slice_get}
+use Rattle.std.proofs.Common.{◌≡◌, ℕ, ◌^◌, ◌<◌, ◌≤◌, Bool, true, false, cond, eqb, Option, Some, None, List, [], ◌∷◌, ◌++◌, refl, sym, subst, ◌∙◌, arith, inl, inr, ◌⊎◌, IfNone, codes, slice_get}
 use Rattle.std.proofs.lemmas.List.{append_assoc, append_cancel_left, append_cancel_right}
 use Rattle.std.proofs.lemmas.Fmt.{decimal_injective}
 use Rattle.std.specs.Fmt.{decimal}
 use Rattle.first_path.specs.FirstDescription.{FirstForm, AreNumbers}
 use Rattle.first_path.specs.DescriptionLines.{IsSplitAtByte}
-use Rattle.first_path.specs.DescriptionParts.{IsRegisterLine, SpellsHeading, AreSizes}
+use Rattle.first_path.specs.DescriptionParts.{IsRegisterLine, SpellsHeading}
 use Rattle.first_path.proofs.DescriptionSplits.{same_front}
 use Rattle.first_path.proofs.DescriptionTokens.{decimal_lacks}
 
@@ -18,11 +18,6 @@ pub split_once : (b : ℕ) (t f k g m : List ℕ) → IsSplitAtByte b t f k → 
 split_once b t f k g m p q = same_front b f g k m p.first q.first (sym p.text ∙ q.text)
 
 -- the line of the register
-
-pub register_text : (line a t digits name : List ℕ) (n : ℕ) → line ≡ codes "reg " ++ a → a ≡ t ++ codes " result" → t ≡ digits ++ 32 ∷ name → digits ≡ decimal n → line ≡ codes "reg " ++ decimal n ++ codes " " ++ name ++ codes " result"
-register_text line a t digits name n e f g h =
-    let middle : t ≡ (decimal n ++ 32 ∷ []) ++ name = g ∙ ap (λ x. x ++ 32 ∷ name) h ∙ sym (append_assoc (decimal n) (32 ∷ []) name) in
-    e ∙ ap (λ x. codes "reg " ++ x) (f ∙ ap (λ x. x ++ codes " result") middle)
 
 pub register_inner : (line a name : List ℕ) (n : ℕ) → line ≡ codes "reg " ++ a → IsRegisterLine line n name → a ≡ ((decimal n ++ 32 ∷ []) ++ name) ++ codes " result"
 register_inner line a name n e h = append_cancel_left (codes "reg ") a (((decimal n ++ 32 ∷ []) ++ name) ++ codes " result") (sym e ∙ h.text)
@@ -63,62 +58,6 @@ pub numbers_small : (f : FirstForm) → AreNumbers f → AreSmall f
 numbers_small f h =
     let memory : f.memory ≤ 16777216 = omega (arith, h.memory_most, most_is (eqb f.word 16)) in
     record { word = small_word f.word h.word; memory = omega (arith, memory); data_begin = omega (arith, memory, h.room); stack = omega (arith, h.stack_most) }
-
-pub numbers_16 : (f : FirstForm) → f.word ≡ 16 → f.register < 64 → AreSizes f 65534 → AreNumbers f
-numbers_16 f e r h = record {
-  word = inl e;
-  memory_words = h.memory_words;
-  memory_least = h.memory_least;
-  memory_most = rw e h.memory_most;
-  data_words = h.data_words;
-  stack_words = h.stack_words;
-  stack_least = h.stack_least;
-  stack_most = h.stack_most;
-  room = h.room;
-  register = r;
-}
-
-pub numbers_32 : (f : FirstForm) → f.word ≡ 32 → f.register < 64 → AreSizes f 16777216 → AreNumbers f
-numbers_32 f e r h = record {
-  word = inr e;
-  memory_words = h.memory_words;
-  memory_least = h.memory_least;
-  memory_most = rw e h.memory_most;
-  data_words = h.data_words;
-  stack_words = h.stack_words;
-  stack_least = h.stack_least;
-  stack_most = h.stack_most;
-  room = h.room;
-  register = r;
-}
-
-at_16 : (memory : ℕ) (r : Bool) → r ≡ true → memory ≤ cond r 65534 16777216 → memory ≤ 65534
-at_16 memory true q l = l
-at_16 memory false q l = let no : false ≡ true → ⊥ = λ e. cc in absurd (no q)
-
-pub sizes_16 : (f : FirstForm) → f.word ≡ 16 → AreNumbers f → AreSizes f 65534
-sizes_16 f e h = record {
-  memory_words = h.memory_words;
-  data_words = h.data_words;
-  stack_words = h.stack_words;
-  memory_least = h.memory_least;
-  memory_most = at_16 f.memory (eqb f.word 16) (ap (λ w. eqb w 16) e) h.memory_most;
-  stack_least = h.stack_least;
-  stack_most = h.stack_most;
-  room = h.room;
-}
-
-pub sizes_32 : (f : FirstForm) → f.word ≡ 32 → AreNumbers f → AreSizes f 16777216
-sizes_32 f e h = record {
-  memory_words = h.memory_words;
-  data_words = h.data_words;
-  stack_words = h.stack_words;
-  memory_least = h.memory_least;
-  memory_most = omega (arith, h.memory_most, most_is (eqb f.word 16));
-  stack_least = h.stack_least;
-  stack_most = h.stack_most;
-  room = h.room;
-}
 
 -- a number at the end of a line
 

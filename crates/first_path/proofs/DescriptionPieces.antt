@@ -1,12 +1,12 @@
 -- Reading a text of literal tokens, one by one.
 use Rattle.std.proofs.Common.{◌≡◌, ℕ, ◌+◌, ◌-◌, ◌<◌, Some, None, take, slice_get, length-append, eq-eqb, true, false, List, [], ◌∷◌, ◌++◌, length, drop, map, refl, sym, ap, subst, ◌∙◌, arith}
-use Rattle.std.proofs.lemmas.Bool.{and_parts, both_ways, ne_eqb}
+use Rattle.std.proofs.lemmas.Bool.{and_parts, both_ways}
 use Rattle.std.proofs.lemmas.List.{append_assoc, append-nil, map-append}
 use Rattle.std.proofs.lemmas.List.Folds.{list_all-append}
 use Rattle.std.specs.List.{list_all}
-use Rattle.asm_token.specs.Tokens.{Token, spelling, LongestToken, BeginsNoToken, Spells, at_end, after_gap, one_token, is_blank}
+use Rattle.asm_token.specs.Tokens.{Token, spelling, LongestToken, Spells, at_end, after_gap, one_token, is_blank}
 use Rattle.asm_token.proofs.Lengths.{token_nonempty}
-use Rattle.asm_token.proofs.Steps.{past_gap, past_token, no_tokens, blank_is_gap, spelled_once}
+use Rattle.asm_token.proofs.Steps.{past_gap, past_token, blank_is_gap, spelled_once}
 use Rattle.md_rows.specs.declared.row.Piece.{Piece}
 use Rattle.first_path.specs.FirstDescription.{is_literal, piece_of, SpellsLiterals}
 use Rattle.first_path.specs.DescriptionParts.{SpellsPieces}
@@ -25,15 +25,6 @@ pub record ReadSoFar (bytes rest : List ℕ) (pieces : List Piece) : Type 0 wher
   pub literal : list_all is_literal tokens ≡ true
   pub onward : (us : List Token) → Spells is_blank rest us → Spells is_blank bytes (tokens ++ us)
   pub back : (vs : List Token) → Spells is_blank bytes vs → Follows bytes rest tokens vs
-
-pub none_read : (bytes : List ℕ) → ReadSoFar bytes bytes []
-none_read bytes = record {
-  tokens = [];
-  same = refl;
-  literal = refl;
-  onward = λ us h. h;
-  back = λ vs h. record { others = vs; is = refl; spelled = h };
-}
 
 pub blank_read : (bytes rest more : List ℕ) (b : ℕ) (pieces : List Piece) → rest ≡ b ∷ more → is_blank b ≡ true → ReadSoFar bytes rest pieces → ReadSoFar bytes more pieces
 blank_read bytes rest more b pieces e g r = record {
@@ -89,13 +80,6 @@ all_read bytes rest pieces e r = record {
 
 -- where nothing more is read
 
-pub no_more : (bytes rest more : List ℕ) (b : ℕ) (pieces : List Piece) → rest ≡ b ∷ more → is_blank b ≡ false → BeginsNoToken rest → ReadSoFar bytes rest pieces → (ts : List Token) → SpellsLiterals bytes ts → ⊥
-no_more bytes rest more b pieces e g n r ts s =
-    let f = r.back ts s.spells in
-    let P : List ℕ → Type 0 = λ bs. Spells is_blank bs f.others in
-    let Q : List ℕ → Type 0 = λ bs. BeginsNoToken bs in
-    no_tokens is_blank b more f.others g (subst Q e n) (subst P e f.spelled)
-
 pub not_literal : (bytes rest : List ℕ) (t : Token) (n : ℕ) (pieces : List Piece) → LongestToken rest t n → is_literal t ≡ false → ReadSoFar bytes rest pieces → (ts : List Token) → SpellsLiterals bytes ts → ⊥
 not_literal bytes rest t n pieces h l r ts s =
     let f = r.back ts s.spells in
@@ -140,7 +124,3 @@ nothing_first (b ∷ bs) e = let no : None ≡ Some b → ⊥ = λ q. cc in absu
 
 pub read_to_end : (bytes rest : List ℕ) (pieces : List Piece) → None ≡ slice_get rest 0 → ReadSoFar bytes rest pieces → SpellsPieces bytes pieces
 read_to_end bytes rest pieces e r = all_read bytes rest pieces (nothing_first rest e) r
-
-pub no_token_follows : (bytes rest : List ℕ) (c : ℕ) (pieces : List Piece) → Some c ≡ slice_get rest 0 → (c ≡ 32 → ⊥) → BeginsNoToken rest → ReadSoFar bytes rest pieces → (ts : List Token) → SpellsLiterals bytes ts → ⊥
-no_token_follows bytes rest c pieces e d n r ts s =
-    no_more bytes rest (drop 1 rest) c pieces (first_is rest c e) (ne_eqb c 32 d) n r ts s

@@ -1,14 +1,10 @@
 -- The texts of the rows are found in one way at most.
-use Rattle.std.proofs.Common.{◌≡◌, ℕ, List, [], ◌∷◌, ◌++◌, refl, sym, ap, subst, ◌∙◌, codes, slice_get, Some}
+use Rattle.std.proofs.Common.{◌≡◌, ℕ, List, [], ◌++◌, refl, sym, subst, ◌∙◌, codes, slice_get, Some}
 use Rattle.std.proofs.lemmas.List.{append_assoc, append_cancel_left, append_cancel_right}
 use Rattle.first_path.specs.FirstDescription.{RowTexts}
 use Rattle.first_path.specs.DescriptionLines.{IsSplitAtByte}
 use Rattle.first_path.specs.DescriptionParts.{IsRowLine, IsRoundHole, AreRowLines}
 use Rattle.first_path.proofs.DescriptionHeading.{split_once, some_same}
-
-pub row_text : (line a left mid x goal digits ending : List ℕ) → line ≡ codes "row " ++ a → a ≡ left ++ ending → left ≡ mid ++ digits → mid ≡ x ++ goal → line ≡ codes "row " ++ x ++ goal ++ digits ++ ending
-row_text line a left mid x goal digits ending e f g h =
-    e ∙ ap (λ y. codes "row " ++ y) (f ∙ ap (λ y. y ++ ending) (g ∙ ap (λ y. y ++ digits) h))
 
 pub row_inner : (line a x goal digits ending : List ℕ) → line ≡ codes "row " ++ a → IsRowLine line goal digits ending x → a ≡ ((x ++ goal) ++ digits) ++ ending
 row_inner line a x goal digits ending e h = append_cancel_left (codes "row ") a (((x ++ goal) ++ digits) ++ ending) (sym e ∙ h.text)
@@ -30,12 +26,6 @@ row_once line x y goal digits ending p q =
     row_same line (((y ++ goal) ++ digits) ++ ending) ((y ++ goal) ++ digits) (y ++ goal) y x goal digits ending q.text refl refl refl p
 
 -- the hole
-
-pub hole_text : (t front rest back : List ℕ) → IsSplitAtByte 60 t front rest → rest ≡ codes "n:word>" ++ back → IsRoundHole t front back
-hole_text t front rest back h e = record {
-  text = h.text ∙ ap (λ r. front ++ 60 ∷ r) e ∙ sym (append_assoc front (codes "<n:word>") back);
-  first = h.first;
-}
 
 pub hole_split : (t front back : List ℕ) → IsRoundHole t front back → IsSplitAtByte 60 t front (codes "n:word>" ++ back)
 hole_split t front back h = record { text = h.text ∙ append_assoc front (codes "<n:word>") back; first = h.first }

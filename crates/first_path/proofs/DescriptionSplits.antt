@@ -22,9 +22,6 @@ same_front b (c ∷ f) (d ∷ g) k m p q e =
     let front : f ≡ g = rest.0 in
     (cc, rest.1)
 
-is_byte : ℕ → ℕ → Bool
-is_byte b c = eqb c b
-
 -- such a byte has a place
 placed : (b : ℕ) (f k : List ℕ) → position_or_len (λ c. eqb c b) (f ++ b ∷ k) < length (f ++ b ∷ k)
 placed b [] k = let e : eqb b b ≡ true = eq-eqb b b refl in rw e (omega arith)

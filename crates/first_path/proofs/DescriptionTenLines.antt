@@ -2,7 +2,7 @@
 use Rattle.std.proofs.Common.{◌≡◌, ℕ, ◌+◌, ◌<◌, ◌≤◌, List, [], ◌∷◌, ◌++◌, length, take, map, refl, sym, ap, subst, ◌∙◌, arith, Bor}
 use Rattle.std.proofs.lemmas.Grind.{flat_map-append}
 use Rattle.std.proofs.lemmas.List.{append_assoc, take_more_set, map-append, append-nil, length-map, length-take-le, take_all}
-use Rattle.std.proofs.lemmas.List.Elements.{All-head, All-tail, All-push, All-nil}
+use Rattle.std.proofs.lemmas.List.Elements.{All-head, All-tail, All-push}
 use Rattle.std.specs.List.{All, slice_set}
 use Rattle.first_path.specs.FirstDescription.{text_of}
 use Rattle.first_path.specs.DescriptionLines.{IsSplitAtByte, IsLine, IsFirstLine, AreTenLines}
@@ -12,9 +12,6 @@ use Rattle.first_path.proofs.DescriptionSplits.{same_front}
 pub record TakenLines (bytes : List ℕ) (done : List (List ℕ)) (rest : List ℕ) : Type 0 where
   pub text : bytes ≡ text_of done ++ rest
   pub each : All IsLine done
-
-pub none_taken : (bytes : List ℕ) → TakenLines bytes [] bytes
-none_taken bytes = record { text = refl; each = All-nil IsLine }
 
 one_line : (t line after : List ℕ) → t ++ (line ++ 10 ∷ after) ≡ (t ++ text_of (line ∷ [])) ++ after
 one_line t line after = simp append_assoc refl

@@ -1,7 +1,7 @@
 -- Which bytes tokens and numbers don't have, and that a text is one token at most.
-use Rattle.std.proofs.Common.{◌≡◌, ℕ, ◌^◌, ◌<◌, ◌≤◌, suc, ℤ, pos, negsuc, Bool, true, false, not, ◌||◌, ◌&&◌, eqb, List, [], ◌∷◌, ◌++◌, length, drop, refl, sym, ap, ◌∙◌, arith, rules, length-append}
+use Rattle.std.proofs.Common.{◌≡◌, ℕ, ◌^◌, ◌<◌, suc, ℤ, pos, negsuc, Bool, true, false, not, ◌||◌, ◌&&◌, eqb, List, [], ◌∷◌, ◌++◌, length, drop, refl, sym, ap, ◌∙◌, arith, rules, length-append}
 use Rattle.std.proofs.lemmas.Bool.{and_parts, or_left, or_right}
-use Rattle.std.proofs.lemmas.List.{append-nil, drop_all}
+use Rattle.std.proofs.lemmas.List.{append-nil}
 use Rattle.std.proofs.lemmas.List.Folds.{list_all-append}
 use Rattle.std.proofs.lemmas.List.Sums.{list_all-from_AllPass}
 use Rattle.std.proofs.lemmas.Fmt.{digits_decimal}
@@ -90,15 +90,6 @@ spells_lacks b _ _ g f (one_token t bs ts k l s) =
 
 -- one token
 
-nothing_more : (n : ℕ) (bs : List ℕ) → length bs ≤ n → drop n bs ≡ []
-nothing_more n bs l = drop_all n bs l
-
-pub whole_is : (bs : List ℕ) (t : Token) (n : ℕ) → LongestToken bs t n → n ≡ length bs → IsSpelledToken bs t
-whole_is bs t n h e = record {
-  token = h.is_token;
-  text = h.spelled ∙ ap (λ r. spelling t ++ r) (nothing_more n bs (omega (arith, e))) ∙ append-nil (spelling t);
-}
-
 pub part_is_not : (bs : List ℕ) (t : Token) (n : ℕ) → LongestToken bs t n → (n ≡ length bs → ⊥) → (u : Token) → IsSpelledToken bs u → ⊥
 part_is_not bs t n h d u s =
     let least = h.longest.at_least u [] s.token (sym h.spelled ∙ s.text ∙ sym (append-nil (spelling u))) in
@@ -111,21 +102,12 @@ none_is bs n u s = n u [] s.token (s.text ∙ sym (append-nil (spelling u)))
 pub one_spelled : (bs : List ℕ) (t u : Token) → IsSpelledToken bs t → IsSpelledToken bs u → t ≡ u
 one_spelled bs t u p q = same_token t u p.token q.token (sym p.text ∙ q.text)
 
-pub number_spelled : (n : ℕ) → n < 2 ^ 32 → IsSpelledToken (decimal n) (Number (pos n))
-number_spelled n l = record { token = omega (arith, l); text = refl }
-
 -- what a token of another kind is not
 
 pub number_no_name : (bs : List ℕ) (z : ℤ) → IsSpelledToken bs (Number z) → IsToken (Name bs) → ⊥
 number_no_name bs z h n =
     let same : Number z ≡ Name bs = one_spelled bs (Number z) (Name bs) h (record { token = n; text = refl }) in
     let no : Number z ≡ Name bs → ⊥ = λ e. cc in
-    no same
-
-pub mark_no_name : (bs : List ℕ) (c : ℕ) → IsSpelledToken bs (Mark c) → IsToken (Name bs) → ⊥
-mark_no_name bs c h n =
-    let same : Mark c ≡ Name bs = one_spelled bs (Mark c) (Name bs) h (record { token = n; text = refl }) in
-    let no : Mark c ≡ Name bs → ⊥ = λ e. cc in
     no same
 
 pub nothing_no_name : (bs : List ℕ) → ((t : Token) → IsSpelledToken bs t → ⊥) → IsToken (Name bs) → ⊥

@@ -44,6 +44,7 @@ start_view d input = record {
   symbols = λ n. 0;
   labels = λ l. None;
   targets = λ l. None;
+  places = λ n. Some n;
   input = input;
 }
 

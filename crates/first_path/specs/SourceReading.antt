@@ -1,5 +1,5 @@
 -- What the parts of the reader of sources say of a text.
-use Rattle.std.specs.Prelude.{◌≡◌, ◌≢◌, ℕ, ◌≤◌, List, [], ◌∷◌, ◌++◌, Bool, false, nat_eq, codes}
+use Rattle.std.specs.Prelude.{◌≡◌, ◌≢◌, ℕ, ◌≤◌, List, [], ◌∷◌, ◌++◌, Bool, false, codes}
 use Rattle.std.specs.Char.{is_ascii_digit}
 use Rattle.std.specs.Fmt.{decimal}
 use Rattle.first_path.specs.Source.{BeginsStatement, BeginsCalls, IsClosing}
@@ -7,10 +7,6 @@ use Rattle.first_path.specs.Source.{BeginsStatement, BeginsCalls, IsClosing}
 abbrev pub begins_with_digit : List ℕ → Bool
 begins_with_digit [] = false
 begins_with_digit (c ∷ cs) = is_ascii_digit c
-
-abbrev pub begins_with_line_feed : List ℕ → Bool
-begins_with_line_feed [] = false
-begins_with_line_feed (c ∷ cs) = nat_eq c 10
 
 -- a word that neither is empty nor begins with a line feed
 abbrev pub IsWord : List ℕ → Type 0

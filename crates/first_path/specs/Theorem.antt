@@ -1,7 +1,7 @@
 -- That each description and each source that are read have a text of the described machine that does what the source does, and that a
 -- text has at most one program.
 use Rattle.std.specs.Prelude.{◌≡◌, ℕ, List}
-use Rattle.behaviour.specs.Run.{Same}
+use Rattle.behaviour.specs.Run.{NeverFails, Same, AreBytes}
 use Rattle.rtl_word.specs.Words.{IsWordSize}
 use Rattle.md_rows.specs.declared.description.RawDescription.{RawDescription}
 use Rattle.md_rows.specs.declared.instance.Instance.{Instance}
@@ -13,7 +13,8 @@ use Rattle.first_path.specs.Compiled.{compiled_text}
 use Rattle.first_path.specs.SourceRun.{source_run}
 use Rattle.first_path.specs.MachineRun.{machine_run}
 
--- the bytes written are an assembly text of the described machine, whose program does, on every input, what the source does
+-- the bytes written are an assembly text of the described machine, whose program does what the source does on inputs of bytes on which
+-- the source never fails
 pub record IsCompiledTo (description source written : List ℕ) : Type 0 where
   pub machine : RawDescription
   pub described : IsDescription description machine
@@ -22,7 +23,9 @@ pub record IsCompiledTo (description source written : List ℕ) : Type 0 where
   -- each written line but the first is one instruction of the machine
   pub instructions : List Instance
   pub text : IsText machine written instructions
-  pub same : (input : List ℕ) → Same (source_run program input) (machine_run machine instructions input)
+  pub same :
+      (input : List ℕ) → AreBytes input → NeverFails (source_run program input)
+      → Same (source_run program input) (machine_run machine instructions input)
   pub bytes : written ≡ compiled_text machine program
 
 abbrev pub DescribedHasWordSize : Type 0

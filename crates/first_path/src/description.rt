@@ -45,6 +45,3 @@ pub fn read_description(alloc: Global, text: &[u8]) -> Result<RawDescription, De
 pub fn at_most_one_description()
     ensures { AtMostOneDescription }
 {}
-
-#[cfg(test)]
-mod tests;

@@ -10,6 +10,4 @@ pub mod assembly;
 pub mod description;
 pub mod source;
 pub mod source_run;
-#[cfg(test)]
-mod tests;
 pub mod theorem;

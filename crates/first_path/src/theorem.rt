@@ -8,7 +8,7 @@ pub fn described_has_word_size()
 {}
 
 /// Each description and each source that are read have a text that does on the described machine
-/// what the source does, on every input.
+/// what the source does, on every input of bytes on which the source never fails.
 pub fn compiles()
     ensures { Compiles }
 {}

@@ -1,10 +1,10 @@
 -- When the shape of a number is covered.
-use Rattle.std.proofs.Common.{◌≡◌, ◌≢◌, ◌⊎◌, ◌↔◌, ℕ, ◌<◌, Bool, true, false, IsTrue, List, [], ◌∷◌, inl, inr, refl, sym, subst, ap, arith, ◌∙◌}
+use Rattle.std.proofs.Common.{◌⊎◌, List, [], ◌∷◌}
 use Rattle.rtl_word.specs.declared.Rel.{Rel}
 use Rattle.rtl_word.specs.declared.Rel.TheVariants.{Eq, Ne, Lt, Le, Gt, Ge, Ltu, Leu, Gtu, Geu}
 use Rattle.md_rows.specs.declared.description.RawDescription.{RawDescription}
-use Rattle.md_shapes.specs.Shapes.{plain, relations}
-use Rattle.md_check.specs.Accepted.{IsCovered, IsFlagBranch, HasShape, shape}
+use Rattle.md_shapes.specs.Shapes.{relations}
+use Rattle.md_check.specs.Accepted.{IsCovered, IsFlagBranch, shape}
 use Rattle.md_check.specs.Checking.{EachBranch}
 
 abbrev pub BranchesOn : RawDescription → Rel → Type 0
@@ -28,27 +28,3 @@ branches_in d (r ∷ rs) f = (f r, branches_in d rs f)
 
 pub all_branches : (d : RawDescription) → ((r : Rel) → BranchesOn d r) → EachBranch d relations
 all_branches d f = branches_in d relations f
-
-distinct : (n : ℕ) → n ≡ 18 → n ≡ 20 → ⊥
-distinct n h k = omega arith
-
-pub shape_18 : (d : RawDescription) (n : ℕ) → n ≡ 18 → IsCovered d (plain 18) ⊎ IsCovered d (shape 18 1 Eq 0) → HasShape d n
-shape_18 d n e h = record {
-  other = λ f g. absurd (f e);
-  clearing = λ k. h;
-  branching = λ k. absurd (distinct n e k);
-}
-
-pub shape_20 : (d : RawDescription) (n : ℕ) → n ≡ 20 → ((r : Rel) → BranchesOn d r) → HasShape d n
-shape_20 d n e h = record {
-  other = λ f g. absurd (g e);
-  clearing = λ k. absurd (distinct n k e);
-  branching = λ k. h;
-}
-
-pub shape_plain : (d : RawDescription) (n : ℕ) → n ≢ 18 → n ≢ 20 → IsCovered d (plain n) → HasShape d n
-shape_plain d n f g h = record {
-  other = λ x y. h;
-  clearing = λ k. absurd (f k);
-  branching = λ k. absurd (g k);
-}

@@ -1,11 +1,11 @@
 -- A text has at most one outcome.
-use Rattle.std.proofs.Common.{◌≡◌, ◌⊎◌, ℕ, suc, ◌<◌, ◌≤◌, Bool, true, false, nat_lt, List, inl, inr, refl, sym, subst, ap, arith, ◌∙◌}
+use Rattle.std.proofs.Common.{◌≡◌, ◌⊎◌, ℕ, ◌<◌, ◌≤◌, Bool, true, false, nat_lt, List, inl, inr, refl, sym, subst, ap, arith, ◌∙◌}
 use Rattle.std.proofs.lemmas.Bool.Decides.{nat_tests}
 use Rattle.md_rows.specs.declared.description.RawDescription.{RawDescription}
 use Rattle.md_text.specs.Accepted.{Says, Rule as TextRule, number_of as text_rule_number, Told as TextTold}
 use Rattle.md_text.specs.Laws.{AtMostOneTold, AtMostOneDescription}
 use Rattle.md_check.specs.Accepted.{Rule, Overlapping, FewRegisters, MissingShape, number_of, Breaks, Told, IsAcceptedText, IsRefusedText, by_text, by_whole}
-use Rattle.md_check.specs.Laws.{TextOutcome, Accepted, Refused, HasOutcome, AtMostOneOutcome}
+use Rattle.md_check.specs.Laws.{Accepted, Refused, AtMostOneOutcome}
 
 least_same : (a b : ℕ) → a ≤ b → b ≤ a → a ≡ b
 least_same a b h k = omega arith
@@ -41,9 +41,6 @@ told_line d r l m e f x y = least_same l m (x.least_line m f y.broken) (y.least_
 
 told_detail : (d : RawDescription) (r : Rule) (l e f : ℕ) → Told d r l e → Told d r l f → e ≡ f
 told_detail d r l e f x y = least_same e f (x.least_detail f y.broken) (y.least_detail e x.broken)
-
-abbrev refused : ℕ → ℕ → ℕ → TextOutcome
-refused l r e = Refused l r e
 
 told_same : (d : RawDescription) (r s : Rule) (l m e f : ℕ) → Told d r l e → Told d s m f → Refused l (number_of r) e ≡ Refused m (number_of s) f
 told_same d r s l m e f x y =

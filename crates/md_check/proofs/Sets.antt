@@ -1,7 +1,7 @@
 -- Bits of a set that is made bit by bit.
-use Rattle.std.proofs.Common.{◌≡◌, ◌⊎◌, ◌↔◌, ℕ, ◌+◌, ◌<◌, ◌≤◌, ◌^◌, Bool, true, false, nat_eq, ◌==◌, bit_or, max, inl, inr, refl, sym, subst, ap, arith, ◌∙◌}
+use Rattle.std.proofs.Common.{◌≡◌, ◌⊎◌, ◌↔◌, ℕ, ◌+◌, ◌<◌, ◌^◌, Bool, true, false, nat_eq, bit_or, max, inl, inr, refl, sym, subst, arith, ◌∙◌}
 use Rattle.std.specs.Int.{bit_at}
-use Rattle.std.proofs.lemmas.Nat.Bits.{bit_at_or, bit_at-lt, bit_at-pow_same, bit_at-pow_other, bit_at-zero}
+use Rattle.std.proofs.lemmas.Nat.Bits.{bit_at_or, bit_at-lt, bit_at-pow_same, bit_at-pow_other}
 use Rattle.std.proofs.lemmas.Bool.Decides.{nat_tests}
 use Rattle.md_rows.specs.declared.description.RawDescription.{RawDescription}
 use Rattle.md_shapes.specs.Shapes.{plain}
@@ -45,6 +45,3 @@ set_step d a b place f g k = (
     | inr x ↦ inr ((g k).1 (x, subst (λ (n : ℕ). IsCovered d (plain (30 + n))) x h.1))
   ]),
 )
-
-pub no_bits : (d : RawDescription) (k : ℕ) → (bit_at 0 k ≡ 1) ↔ ((k < 0) × IsCovered d (plain (30 + k)))
-no_bits d k = (λ h. absurd (let q : 0 ≡ 1 = sym (bit_at-zero k) ∙ h in omega arith), λ h. absurd (let z = h.0 in omega (arith, z)))

@@ -1,7 +1,5 @@
 -- Which rule is told, and what is accepted where none is.
-use Rattle.std.proofs.Common.{◌≡◌, ◌⊎◌, ℕ, zero, suc, ◌+◌, ◌<◌, ◌≤◌, Bool, true, false, nat_lt, nat_le, not, ◌&&◌, ◌||◌, ◌==◌, IsTrue, List, [], ◌∷◌, map, slice_get, All, Option, Some, None, inl, inr, refl, sym, subst, ap, arith, ◌∙◌}
-use Rattle.std.proofs.lemmas.Bool.Decides.{nat_tests}
-use Rattle.rtl_norm.specs.Transfers.{norm_moves}
+use Rattle.std.proofs.Common.{◌≡◌, ℕ, zero, suc, ◌+◌, ◌<◌, ◌≤◌, List, [], ◌∷◌, map, slice_get, Some, None, inl, inr, refl, sym, subst, arith}
 use Rattle.md_rows.specs.declared.description.RawDescription.{RawDescription}
 use Rattle.md_rows.specs.declared.row.Row.{Row}
 use Rattle.md_overlap.specs.declared.told.Overlapping.{Overlapping as Lines}
@@ -9,7 +7,7 @@ use Rattle.md_overlap.specs.Overlap.{HasOverlap}
 use Rattle.md_overlap.specs.Least.{IsLeastPair, NoLater}
 use Rattle.md_covers.specs.Covers.{IsReadRow}
 use Rattle.md_said.specs.Sound.{IsSoundRow, SaidIsSound}
-use Rattle.md_check.specs.Accepted.{Rule, Overlapping, FewRegisters, MissingShape, number_of, Breaks, Told, IsWhole, HasFewRegisters, LacksShape, MissesShape, general_count, most_registers, normalised, normalised_row, is_required, has_link}
+use Rattle.md_check.specs.Accepted.{Rule, Overlapping, FewRegisters, MissingShape, number_of, Breaks, Told, MissesShape, general_count, most_registers, normalised, normalised_row}
 use Rattle.md_check.specs.Checking.{IsLeast, AreReadRows, IsChecked}
 
 below : (m n : ℕ) → m < n → n ≤ m → ⊥
@@ -34,21 +32,8 @@ told_overlap d o h = record {
   least_detail = λ e b. detail_of o.line o.earlier e (h.1 o.line e b);
 }
 
-few_least : (d : RawDescription) → ((l e : ℕ) → HasOverlap d l e → ⊥) → (r : Rule) (l e : ℕ) → number_of r < 16 → Breaks r d l e → ⊥
-few_least d h Overlapping l e k b = h l e b
-few_least d h FewRegisters l e k b = below 16 16 k (omega arith)
-few_least d h MissingShape l e k b = below 17 16 k (omega arith)
-
 equal_le : (m n : ℕ) → n ≡ m → m ≤ n
 equal_le m n e = omega arith
-
-pub told_few : (d : RawDescription) → ((l e : ℕ) → HasOverlap d l e → ⊥) → general_count d.registers < most_registers d.rows + 1 → Told d FewRegisters d.last 0
-told_few d h k = record {
-  broken = record { few = k; last = refl; none = refl };
-  least_rule = few_least d h;
-  least_line = λ l e b. equal_le d.last l b.last;
-  least_detail = λ e b. (let z = b.none in omega arith);
-}
 
 missing_least : (d : RawDescription) → ((l e : ℕ) → HasOverlap d l e → ⊥) → (general_count d.registers < most_registers d.rows + 1 → ⊥)
     → (r : Rule) (l e : ℕ) → number_of r < 17 → Breaks r d l e → ⊥
@@ -64,12 +49,6 @@ told_missing d n h k m = record {
   least_line = λ l e b. equal_le d.last l b.last;
   least_detail = λ e b. m.1 e b.misses;
 }
-
-pub whole : (d : RawDescription) → ((l e : ℕ) → HasOverlap d l e → ⊥) → (general_count d.registers < most_registers d.rows + 1 → ⊥)
-    → IsLeast (MissesShape (normalised d)) None → IsWhole d
-whole d h k m Overlapping l e b = h l e b
-whole d h k m FewRegisters l e b = k b.few
-whole d h k m MissingShape l e b = m e b.misses
 
 -- rows with their normal forms are such as can be compared with shapes
 
@@ -101,29 +80,3 @@ pub checked_rows : (w : ℕ) (d : RawDescription) → SaidIsSound → IsChecked 
 checked_rows w d sound c =
     subst (λ (e : RawDescription). AreReadRows w e.rows) (sym c.normal)
     (read_rows w c.said c.word (sound c.text c.said c.accepted.says).rows)
-
--- the numbers of required shapes
-
-clash : false ≡ true → ⊥
-clash e = cc
-
-range_by : (n : ℕ) (a b c : Bool) → nat_le 1 n ≡ a → nat_le n 29 ≡ b → (a && (b && c)) ≡ true → (1 ≤ n) × (n ≤ 29)
-range_by n true true c h k e = (grind (arith, nat_tests), grind (arith, nat_tests))
-range_by n true false c h k e = absurd (clash e)
-range_by n false b c h k e = absurd (clash e)
-
-not_less_by : (m i : ℕ) (b : Bool) → nat_le i m ≡ b → (m < i → ⊥) → i ≤ m
-not_less_by m i true e f = grind (arith, nat_tests)
-not_less_by m i false e f = absurd (f (grind (arith, nat_tests)))
-
-not_less : (m i : ℕ) → (m < i → ⊥) → i ≤ m
-not_less m i f = not_less_by m i (nat_le i m) refl f
-
-pub required_range : (d : RawDescription) (n : ℕ) → IsTrue (is_required d n) → (1 ≤ n) × (n ≤ 29)
-required_range d n h = range_by n (nat_le 1 n) (nat_le n 29) (not (n == 23 || n == 24) || has_link d) refl refl h
-
-pub none_missing : (d : RawDescription) (i : ℕ) → 30 ≤ i → ((m : ℕ) → m < i → MissesShape d m → ⊥) → IsLeast (MissesShape d) None
-none_missing d i h f n x = f n (let k = (required_range d n x.required).1 in omega arith) x
-
-pub first_missing : (d : RawDescription) (i : ℕ) → ((m : ℕ) → m < i → MissesShape d m → ⊥) → MissesShape d i → IsLeast (MissesShape d) (Some i)
-first_missing d i f x = (x, λ m y. not_less m i (λ k. f m k y))

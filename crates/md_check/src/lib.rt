@@ -10,7 +10,5 @@ pub mod laws;
 mod normal;
 mod registers;
 mod shapes;
-#[cfg(test)]
-mod tests;
 
 pub use checked::{Checked, Layout, OpSet, check, operators};

@@ -167,9 +167,6 @@ no_total NoPair e = refl
 no_total (AnyNumber n) e = refl
 no_total (AnyName n) e = refl
 
-no_literal_total : (t : Tree) → literals t ≡ 0 → (n : ℕ) → n ≡ 0 → total t ≡ n
-no_literal_total t e n z = no_total t e ∙ sym z
-
 -- without holes for numbers the sum is fixed
 pub fixed_total : (w g : ℕ) (holes : List Hole) (b : List Bound) → AllFit w g holes b → (t : Tree) → IsRowTree holes t → gaps t ≡ 0
     → total (filled b t) ≡ total t

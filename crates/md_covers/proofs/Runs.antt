@@ -65,19 +65,6 @@ up_to d step s = omega arith
 past : (d step : ℕ) → 0 < step → d < (d / step + 1) * step
 past d step s = omega arith
 
-gap_below : (a step h i : ℕ) → 0 < step → a + i * step < next_above a step h → a + i * step ≤ h
-gap_below a step h i s e = elim (split a h) [
-  | inl k ↦
-      (let n = next_later a step h k in
-      elim (split i ((h - a) / step)) [
-        | inl j ↦ (let p = steps i ((h - a) / step) step j in let u = up_to (h - a) step s in omega (arith, p, u, k))
-        | inr j ↦
-            (let z : (h - a) / step + 1 ≤ i = omega (arith, j) in
-            let p = steps ((h - a) / step + 1) i step z in absurd (omega (arith, p, n, e)))
-      ])
-  | inr k ↦ (let n = next_first a step h k in absurd (omega (arith, n, e)))
-]
-
 gap_above : (a step h i : ℕ) → 0 < step → h < a + i * step → next_above a step h ≤ a + i * step
 gap_above a step h i s e = elim (split a h) [
   | inl k ↦

@@ -16,6 +16,3 @@ mod registers;
 pub use covering::covers;
 pub use lines::fits_line;
 pub use registers::general_bits;
-
-#[cfg(test)]
-mod tests;

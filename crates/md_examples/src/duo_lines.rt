@@ -3,7 +3,7 @@
 use crate::edits::Edit;
 
 // Rule 1: bad bytes and lines.
-const BYTES: [Edit; 9] = [
+const BYTES: [Edit; 13] = [
     (2, 1, "name du\x07o\n", 2, 0),
     (20, 1, "row ld\x09<d:r>,<x:at> | <d> = M[<x>]\n", 20, 0),
     (10, 1, "reg 3 d\x7f general\n", 10, 0),
@@ -18,14 +18,19 @@ const BYTES: [Edit; 9] = [
     (48, 1, "row end | HALT = r[0]", 48, 0),
     (1, 48, "vpo 1", 1, 0),
     (1, 48, "\x00\n", 1, 0),
+    (1, 48, "vpo 1\nname tiny", 2, 0),
+    (1, 48, "\n*\x09\nname\x7f\n", 2, 0),
+    (1, 48, "*\n*\n\n\x0b\n*", 4, 0),
+    (1, 48, "vpo 2\n\x1b\n", 2, 0),
     (1, 48, "vpo 2", 1, 0),
 ];
 
 // Rule 2: other first lines.
-const VERSIONS: [Edit; 7] = [
+const VERSIONS: [Edit; 8] = [
     (1, 48, "", 1, 0),
     (1, 48, "\n\n* only\n", 1, 0),
     (1, 1, "vpo 2\n", 1, 0),
+    (1, 1, "\nvpo 2\n", 2, 0),
     (1, 1, "vpo 1 \n", 1, 0),
     (1, 1, "* x\n", 2, 0),
     (1, 1, " vpo 1\n", 1, 0),
@@ -101,6 +106,69 @@ const FORMS: [Edit; 55] = [
     (20, 0, "vpo 2\n", 20, 0),
     (20, 0, "hello\n", 20, 0),
     (20, 0, " \n", 20, 0),
+];
+
+// Rule 3 again, mostly of a line put in before line 20.
+const MORE_FORMS: [Edit; 53] = [
+    (20, 0, "vpo 1 \n", 20, 0),
+    (20, 0, "name 9x\n", 20, 0),
+    (20, 0, "memory  4096\n", 20, 0),
+    (20, 0, "stack +1024\n", 20, 0),
+    (20, 0, "reg 0 r0\n", 20, 0),
+    (20, 0, "reg 0 r0 saved\n", 20, 0),
+    (20, 0, "reg 00 a link\n", 20, 0),
+    (20, 0, "flag 0 Z result\n", 20, 0),
+    (20, 0, "class r a \n", 20, 0),
+    (20, 0, "class r a 1\n", 20, 0),
+    (20, 0, "class r \n", 20, 0),
+    (20, 0, "class ra\n", 20, 0),
+    (20, 0, " flag 0 Z\n", 20, 0),
+    (20, 0, "mode m | #<n:word>\n", 20, 0),
+    (20, 0, "mode m | a:b | 0\n", 20, 0),
+    (20, 0, "mode m | <n:1..> | <n>\n", 20, 0),
+    (20, 0, "mode m | a | _x\n", 20, 0),
+    (20, 0, "mode m | a | L1\n", 20, 0),
+    (20, 0, "mode m | b | lost\n", 20, 0),
+    (20, 0, "row | r[0] = 0\n", 20, 0),
+    (20, 0, "row a | r[0] = <n:word>\n", 20, 0),
+    (20, 0, "row a | r[0] = 32768\n", 20, 0),
+    (20, 0, "row a | r[0] = 40000\n", 20, 0),
+    (20, 0, "row a | r[0] = 0; \n", 20, 0),
+    (20, 0, "row a | r[64] = 0\n", 20, 0),
+    (20, 0, "row a | f[8] = lost\n", 20, 0),
+    (20, 0, "row a | r[0] = L1\n", 20, 0),
+    (20, 0, "row a  | r[0] = 0\n", 20, 0),
+    (20, 0, "Row a | r[0] = 0\n", 20, 0),
+    (20, 0, "row  | r[0] = 0\n", 20, 0),
+    (20, 0, "row  mov | r[0] = 0\n", 20, 0),
+    (20, 0, "row mov  | r[0] = 0\n", 20, 0),
+    (20, 0, "row a:b | r[0] = 0\n", 20, 0),
+    (20, 0, "row a|b | r[0] = 0\n", 20, 0),
+    (20, 0, "row <n> | r[0] = 0\n", 20, 0),
+    (20, 0, "row <n:> | r[0] = 0\n", 20, 0),
+    (20, 0, "row <:r> | r[0] = 0\n", 20, 0),
+    (20, 0, "row <n :r> | r[0] = 0\n", 20, 0),
+    (20, 0, "row <n:1..> | r[0] = 0\n", 20, 0),
+    (20, 0, "row <n:01..2> | r[0] = 0\n", 20, 0),
+    (20, 0, "row <n:1...2> | r[0] = 0\n", 20, 0),
+    (20, 0, "row <n:!sym> | r[0] = 0\n", 20, 0),
+    (20, 0, "row <n:!r> | r[0] = 0\n", 20, 0),
+    (20, 0, "row <n:r | r[0] = 0\n", 20, 0),
+    (20, 0, "row -0 | r[0] = 0\n", 20, 0),
+    (5, 1, "data \n", 5, 0),
+    (5, 1, "data +1\n", 5, 0),
+    (5, 1, "data 01\n", 5, 0),
+    (5, 1, "data 1 \n", 5, 0),
+    (5, 1, "data x\n", 5, 0),
+    (5, 1, "data 10000000000\n", 5, 0),
+    (2, 1, "name x \n", 2, 0),
+    (
+        1,
+        48,
+        "vpo 1\nname x\nword 8\nrow a | r[0] = 40000\nx\n",
+        5,
+        0,
+    ),
 ];
 
 // Rule 4: headings out of order.
@@ -197,10 +265,11 @@ const RESERVED_NAMES: [Edit; 8] = [
 ];
 
 /// The edits of each rule.
-pub const DUO_LINES: [(u8, &[Edit]); 8] = [
+pub const DUO_LINES: [(u8, &[Edit]); 9] = [
     (1, &BYTES),
     (2, &VERSIONS),
     (3, &FORMS),
+    (3, &MORE_FORMS),
     (4, &HEADINGS),
     (5, &RANGES),
     (6, &NAMES_AGAIN),

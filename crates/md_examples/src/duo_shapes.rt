@@ -3,7 +3,8 @@
 use crate::edits::Edit;
 
 // Rule 17: shapes that aren't covered.
-const SHAPES: [Edit; 49] = [
+const SHAPES: [Edit; 50] = [
+    (17, 32, "", 16, 1),
     (17, 1, "", 47, 1),
     (18, 1, "", 47, 2),
     (19, 1, "", 47, 3),

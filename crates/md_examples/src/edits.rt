@@ -6,6 +6,9 @@ use std::alloc::Global;
 /// The first line, how many are replaced, what stands there then, the line at which a rule is told, and the detail.
 pub type Edit = (usize, usize, &'static str, u32, u32);
 
+/// The first line, how many are replaced, what stands there then, and how many rows the accepted text has.
+pub type Mend = (usize, usize, &'static str, usize);
+
 /// The text with lines replaced; lines are counted from 1, and `first` may be the one behind the last.
 pub fn edited(
     alloc: Global,

@@ -30,8 +30,6 @@ mod registers;
 mod scope;
 mod shown;
 mod sizes;
-#[cfg(test)]
-mod tests;
 mod trees;
 
 pub use counts::{MOST_ROWS, passing_line};

@@ -3,13 +3,16 @@
 
 use rtl_tree::NoMemory;
 use std::alloc::{AllocError, AllocFailed};
+use thiserror::Error;
 use vp_io::Reason;
 
 /// The answer of a call that reads or checks a description.
-#[derive(Clone, Copy, Debug, PartialEq, Eq)]
+#[derive(Clone, Copy, Debug, PartialEq, Eq, Error)]
 pub enum MdFault {
+    #[error("no memory")]
     NoMemory,
     /// The least rule that the description breaks, at its least line, with its least detail.
+    #[error("description line {}: rule {} ({})", .0.line, .0.rule, .0.detail)]
     Bad(Reason),
 }
 

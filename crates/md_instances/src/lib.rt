@@ -8,8 +8,6 @@
 
 mod filling;
 mod instances;
-#[cfg(test)]
-mod tests;
 
 pub use filling::{fill_row, filled};
 pub use instances::effects_of;

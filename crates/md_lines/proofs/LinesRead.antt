@@ -1,5 +1,5 @@
 -- Reading the lines of a text, one by one.
-use Rattle.std.proofs.Common.{◌≡◌, ℕ, ◌+◌, ◌-◌, ◌<◌, ◌≤◌, suc, Bool, true, false, not, cond, eqb, List, [], ◌∷◌, ◌++◌, length, map, take, drop, refl, sym, ap, subst, ◌∙◌, arith, inl, inr, length-append}
+use Rattle.std.proofs.Common.{◌≡◌, ℕ, ◌+◌, ◌-◌, ◌<◌, ◌≤◌, suc, Bool, true, false, not, eqb, List, [], ◌∷◌, ◌++◌, length, map, refl, sym, ap, subst, ◌∙◌, arith, inl, inr, length-append}
 use Rattle.std.proofs.lemmas.Bool.{and_parts, cases_Bool, eqb-true}
 use Rattle.std.proofs.lemmas.Grind.{flat_map-append}
 use Rattle.std.proofs.lemmas.List.{append_assoc, append-nil, map-append}
@@ -10,8 +10,7 @@ use Rattle.md_text.proofs.Bytes.{and_true}
 use Rattle.md_text.proofs.Splits.{one_more_line, falls_once}
 use Rattle.md_lines.specs.declared.lines.Line.{Line as ReadLine}
 use Rattle.md_lines.specs.Parts.{IsSplitAtByte}
-use Rattle.md_lines.specs.Kept.{line_of, KeepsLines, IsFirstBadLine}
-use Rattle.md_lines.proofs.Places.{tail_is}
+use Rattle.md_lines.specs.Kept.{line_of, IsFirstBadLine}
 
 -- lines with a line behind them
 
@@ -48,9 +47,6 @@ pub record ReadTo (text rest : List ℕ) (lines : List Line) (number : ℕ) : Ty
   pub keeps : lines ≡ kept done
   pub count : number ≡ 1 + length done
   pub within : number + length rest ≤ 1 + length text
-
-pub nothing_read : (text : List ℕ) → ReadTo text text [] 1
-nothing_read text = record { done = []; whole = refl; each = refl; good = refl; keeps = refl; count = omega arith; within = omega arith }
 
 one_line : (t line after : List ℕ) → t ++ (line ++ 10 ∷ after) ≡ (t ++ text_of (line ∷ [])) ++ after
 one_line t line after = simp append_assoc refl
@@ -181,19 +177,6 @@ line_bad text rest line after lines number r s g =
       bad = subst (HasBadLine text) n (bad r.done more.lines line more.rest f g);
       first = λ m k b. none_before text r.done (line ∷ more.lines) more.rest m f r.good (omega (arith, k, r.count)) b;
     }
-
-no_bytes : (rest : List ℕ) → length rest ≡ 0 → rest ≡ []
-no_bytes [] e = refl
-no_bytes (b ∷ bs) e = absurd (omega (arith, e))
-
-pub all_read : (text rest : List ℕ) (lines : List Line) (number : ℕ) → ReadTo text rest lines number → length rest ≡ 0 → KeepsLines text lines (number - 1)
-all_read text rest lines number r e = record {
-  all = r.done;
-  is_text = record { whole = r.whole ∙ ap (λ t. text_of r.done ++ t) (no_bytes rest e); each = r.each; unended = refl };
-  good = r.good;
-  are_kept = r.keeps;
-  count = omega (arith, r.count);
-}
 
 -- as they stand in the program
 

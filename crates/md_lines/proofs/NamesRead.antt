@@ -1,5 +1,5 @@
 -- Reading a list of names, one by one.
-use Rattle.std.proofs.Common.{◌≡◌, ℕ, ◌+◌, ◌-◌, ◌<◌, ◌≤◌, suc, Bool, true, false, not, eqb, Some, None, List, [], ◌∷◌, ◌++◌, length, map, take, drop, refl, sym, ap, subst, ◌∙◌, arith, rules, length-append, Bor}
+use Rattle.std.proofs.Common.{◌≡◌, ℕ, ◌+◌, ◌-◌, ◌<◌, true, not, eqb, Some, None, List, [], ◌∷◌, ◌++◌, length, map, take, drop, refl, sym, ap, subst, ◌∙◌, arith, rules, length-append, Bor}
 use Rattle.std.proofs.lemmas.Bool.{and_parts}
 use Rattle.std.proofs.lemmas.Grind.{flat_map-append}
 use Rattle.std.proofs.lemmas.List.{append_assoc, append-nil, map-append, length-map, take-append-drop, append_cancel_left, drop_all}
@@ -40,9 +40,6 @@ upto_once (c ∷ f) (d ∷ g) k m p q s t e =
 
 -- the first name
 
-pub name_there : (text rest name back : List ℕ) → text ≡ 32 ∷ rest → IsUptoSpace rest name back → IsName name → BeginsWithName text name back
-name_there text rest name back e s h = record { text = e ∙ ap (λ r. 32 ∷ r) s.text; named = h; stops = s.stops }
-
 pub no_space : (text : List ℕ) → ((rest : List ℕ) → text ≡ 32 ∷ rest → ⊥) → (name back : List ℕ) → BeginsWithName text name back → ⊥
 no_space text none name back b = none (name ++ back) b.text
 
@@ -72,9 +69,6 @@ pub record NamesTo (text rest : List ℕ) (names : List (List ℕ)) : Type 0 whe
   pub whole : text ≡ spaced names ++ rest
   pub each : EachName names
   pub back : (others : List (List ℕ)) → AreSpacedNames text others → Behind rest names others
-
-pub none_read : (text : List ℕ) → NamesTo text text []
-none_read text = record { whole = refl; each = tt; back = λ others h. record { more = others; is = refl; text = h.text; each = h.each } }
 
 each_both : (xs : List (List ℕ)) (x : List ℕ) → EachName xs → IsName x → EachName (xs ++ x ∷ [])
 each_both [] x h k = (k, tt)

@@ -1,8 +1,8 @@
 -- Reading the pieces of a text, one by one.
-use Rattle.std.proofs.Common.{◌≡◌, ℕ, ◌+◌, ◌-◌, ◌<◌, ◌≤◌, suc, Bool, true, false, eqb, Some, None, List, [], ◌∷◌, ◌++◌, length, map, take, drop, slice_get, refl, sym, ap, subst, ◌∙◌, arith, codes, length-append, eq-eqb}
+use Rattle.std.proofs.Common.{◌≡◌, ℕ, ◌+◌, ◌-◌, ◌<◌, suc, Bool, true, false, eqb, Some, None, List, [], ◌∷◌, ◌++◌, length, map, take, drop, slice_get, refl, sym, ap, subst, ◌∙◌, arith, codes, length-append, eq-eqb}
 use Rattle.std.proofs.lemmas.Bool.{ne_eqb}
 use Rattle.std.proofs.lemmas.List.{append_assoc, append-nil, map-append, drop_at, length-map}
-use Rattle.asm_token.specs.Tokens.{Token, IsToken, spelling, Longest, LongestToken, BeginsNoToken}
+use Rattle.asm_token.specs.Tokens.{Token, spelling, Longest, LongestToken, BeginsNoToken}
 use Rattle.asm_token.proofs.Lengths.{token_nonempty}
 use Rattle.asm_token.proofs.Steps.{same_longest}
 use Rattle.md_text.specs.Lines.{lacks}
@@ -64,10 +64,6 @@ colon_there text u m l c t n b =
     clash (is_colon u) c (ap is_colon same.0 ∙ b.no_colon)
 
 -- a piece
-
-pub no_piece_there : (text : List ℕ) → ((h : Slot) (n : ℕ) → BeginsWithHole text h n → ⊥) → ((t : Token) (n : ℕ) → BeginsWithToken text t n → ⊥) → (p : Piece) (n : ℕ) → BeginsWith text p n → ⊥
-no_piece_there text none other (Literal t) n b = other t n b
-no_piece_there text none other (Hole h) n b = none h n b
 
 before_piece : (text : List ℕ) (p : Piece) (n : ℕ) (ps : List Piece) → BeginsWith text p n → SpellsPieces (drop n text) ps → SpellsPieces text (p ∷ ps)
 before_piece text (Literal t) n ps b s =
@@ -142,9 +138,6 @@ pub record PiecesTo (bytes rest : List ℕ) (ps : List Piece) : Type 0 where
   pub onward : (us : List Piece) → SpellsPieces rest us → SpellsPieces bytes (ps ++ us)
   pub back : (vs : List Piece) → SpellsPieces bytes vs → Follows rest ps vs
 
-pub none_read : (bytes : List ℕ) → PiecesTo bytes bytes []
-none_read bytes = record { onward = λ us h. h; back = λ vs h. record { others = vs; is = refl; spelled = h } }
-
 space_read : (bytes rest more : List ℕ) (ps : List Piece) → rest ≡ 32 ∷ more → PiecesTo bytes rest ps → PiecesTo bytes more ps
 space_read bytes rest more ps e r = record {
   onward = λ us h.
@@ -196,9 +189,6 @@ piece_shorter rest p n b =
     let same : length (take (length rest - n) (drop n rest)) ≡ length (drop n rest) = ap length (tail_is n rest) in
     let both = piece_bytes rest p n b in
     omega (arith, both.0, both.1, same)
-
-pub piece_within : (rest : List ℕ) (p : Piece) (n : ℕ) → BeginsWith rest p n → n ≤ length rest
-piece_within rest p n b = omega (arith, (piece_bytes rest p n b).1)
 
 -- where nothing more is read
 

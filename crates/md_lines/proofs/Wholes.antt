@@ -1,18 +1,9 @@
 -- Bytes that are one token.
-use Rattle.std.proofs.Common.{◌≡◌, ℕ, ◌≤◌, ℤ, Bool, true, false, List, [], ◌∷◌, ◌++◌, length, drop, refl, sym, ap, ◌∙◌, arith, length-append}
-use Rattle.std.proofs.lemmas.List.{append-nil, drop_all}
-use Rattle.asm_token.specs.Tokens.{Token, Name, Number, Mark, IsToken, IsName, spelling, LongestToken, BeginsNoToken}
+use Rattle.std.proofs.Common.{◌≡◌, ℕ, ℤ, Bool, true, false, List, [], length, drop, refl, sym, ap, ◌∙◌, arith, length-append}
+use Rattle.std.proofs.lemmas.List.{append-nil}
+use Rattle.asm_token.specs.Tokens.{Token, Name, Number, Mark, IsName, spelling, LongestToken, BeginsNoToken}
 use Rattle.asm_token.proofs.Steps.{same_token}
 use Rattle.md_lines.specs.Fields.{IsWholeToken, IsWholeNumber}
-
-nothing_more : (n : ℕ) (bs : List ℕ) → length bs ≤ n → drop n bs ≡ []
-nothing_more n bs l = drop_all n bs l
-
-pub whole_is : (bs : List ℕ) (t : Token) (n : ℕ) → LongestToken bs t n → n ≡ length bs → IsWholeToken bs t
-whole_is bs t n h e = record {
-  token = h.is_token;
-  text = h.spelled ∙ ap (λ r. spelling t ++ r) (nothing_more n bs (omega (arith, e))) ∙ append-nil (spelling t);
-}
 
 pub part_is_not : (bs : List ℕ) (t : Token) (n : ℕ) → LongestToken bs t n → (n ≡ length bs → ⊥) → (u : Token) → IsWholeToken bs u → ⊥
 part_is_not bs t n h d u s =
@@ -43,20 +34,11 @@ whole_name bs h = record { token = h; text = refl }
 whole_number : (bs : List ℕ) (z : ℤ) → IsWholeNumber bs z → IsWholeToken bs (Number z)
 whole_number bs z h = record { token = h.number; text = h.text }
 
-pub name_found : (bs w : List ℕ) → IsWholeToken bs (Name w) → IsName bs
-name_found bs w h = rw h.text h.token
-
 pub number_no_name : (bs : List ℕ) (z : ℤ) → IsWholeToken bs (Number z) → IsName bs → ⊥
 number_no_name bs z h n = let e : false ≡ true = ap is_name (one_whole bs (Number z) (Name bs) h (whole_name bs n)) in clash false e refl
 
-pub mark_no_name : (bs : List ℕ) (c : ℕ) → IsWholeToken bs (Mark c) → IsName bs → ⊥
-mark_no_name bs c h n = let e : false ≡ true = ap is_name (one_whole bs (Mark c) (Name bs) h (whole_name bs n)) in clash false e refl
-
 pub nothing_no_name : (bs : List ℕ) → ((t : Token) → IsWholeToken bs t → ⊥) → IsName bs → ⊥
 nothing_no_name bs none n = none (Name bs) (whole_name bs n)
-
-pub number_found : (bs : List ℕ) (z : ℤ) → IsWholeToken bs (Number z) → IsWholeNumber bs z
-number_found bs z h = record { text = h.text; number = h.token }
 
 pub name_no_number : (bs w : List ℕ) → IsWholeToken bs (Name w) → (z : ℤ) → IsWholeNumber bs z → ⊥
 name_no_number bs w h z n = let e : false ≡ true = ap is_number (one_whole bs (Name w) (Number z) h (whole_number bs z n)) in clash false e refl

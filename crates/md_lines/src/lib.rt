@@ -14,8 +14,6 @@ mod lines;
 mod names;
 mod pieces;
 mod splits;
-#[cfg(test)]
-mod tests;
 
 pub use fields::{is_name, number, role};
 pub use kinds::{Kind, Range, Slot};

@@ -21,6 +21,3 @@ pub use slots::{
     Marks, NO_MARKS, NO_SLOTS, Slots, is_same_binary, is_same_bound, is_same_unary, is_same_width,
     put,
 };
-
-#[cfg(test)]
-mod tests;

@@ -142,10 +142,6 @@ few_in text ts names l s e = omega (arith, lexed_few text ts l, s, ap length e, 
 
 -- texts
 
-pub transfer_said : (w : ℕ) (text : List ℕ) (ts : List Token) (names : List (List ℕ)) (ms : List Said) → Lexes text ts → names ≡ hole_names ts → IsSpelled (context w names) ms ts
-    → list_all (λ m. goal_has_no_label m.to && has_no_label m.value) ms ≡ true → SpellsMoves w text (record { names = names; moves = ms })
-transfer_said w text ts names ms l e s n = record { tokens = ts; lexes = l; names = e; spelled = s; no_label = n }
-
 -- what another reading would spell
 meant_alike : (w : ℕ) (text : List ℕ) (ts : List Token) (names : List (List ℕ)) (t : OpenTransfer) → Lexes text ts → names ≡ hole_names ts → SpellsMoves w text t → IsSpelled (context w names) t.moves ts
 meant_alike w text ts names t l e h =
@@ -154,9 +150,6 @@ meant_alike w text ts names t l e h =
     let P : List Token → Type 0 = λ us. IsSpelled (context w t.names) t.moves us in
     let Q : List (List ℕ) → Type 0 = λ ns. IsSpelled (context w ns) t.moves ts in
     subst Q named (subst P same h.spelled)
-
-pub not_lexed : (w : ℕ) (text : List ℕ) → ((ts : List Token) → Lexes text ts → ⊥) → (t : OpenTransfer) → SpellsMoves w text t → ⊥
-not_lexed w text none t h = none h.tokens h.lexes
 
 pub not_spelled : (w : ℕ) (text : List ℕ) (ts : List Token) (names : List (List ℕ)) → Lexes text ts → names ≡ hole_names ts → ((ms : List Said) → IsSpelled (context w names) ms ts → ⊥) → (t : OpenTransfer) → SpellsMoves w text t → ⊥
 not_spelled w text ts names l e none t h = none t.moves (meant_alike w text ts names t l e h)
@@ -169,10 +162,6 @@ labelled w text ts names ms size l e s n t h =
     let no : true ≡ false → ⊥ = λ q. cc in
     no (sym all ∙ n)
 
-pub tree_said : (w : ℕ) (text : List ℕ) (ts : List Token) (names : List (List ℕ)) (t : Tree) → Lexes text ts → names ≡ hole_names ts → IsWholeTree (context w names) t ts → has_no_label t ≡ true
-    → SpellsTree w text (record { names = names; tree = t })
-tree_said w text ts names t l e s n = record { tokens = ts; placed = s.placed; lexes = l; split = s.split; names = e; spells = s.spells; within = s.within; no_label = n }
-
 tree_alike : (w : ℕ) (text : List ℕ) (ts : List Token) (names : List (List ℕ)) (t : OpenTree) → Lexes text ts → names ≡ hole_names ts → SpellsTree w text t → IsWholeTree (context w names) t.tree ts
 tree_alike w text ts names t l e h =
     let same : h.tokens ≡ ts = at_most_one_lexed text h.tokens ts h.lexes l in
@@ -181,9 +170,6 @@ tree_alike w text ts names t l e h =
     let P : List Token → Type 0 = λ us. IsWholeTree (context w t.names) t.tree us in
     let Q : List (List ℕ) → Type 0 = λ ns. IsWholeTree (context w ns) t.tree ts in
     subst Q named (subst P same whole)
-
-pub tree_not_lexed : (w : ℕ) (text : List ℕ) → ((ts : List Token) → Lexes text ts → ⊥) → (t : OpenTree) → SpellsTree w text t → ⊥
-tree_not_lexed w text none t h = none h.tokens h.lexes
 
 pub tree_not_spelled : (w : ℕ) (text : List ℕ) (ts : List Token) (names : List (List ℕ)) → Lexes text ts → names ≡ hole_names ts → ((t : Tree) → IsWholeTree (context w names) t ts → ⊥) → (t : OpenTree) → SpellsTree w text t → ⊥
 tree_not_spelled w text ts names l e none t h = none t.tree (tree_alike w text ts names t l e h)

@@ -122,12 +122,6 @@ overlap_next d i row earlier best result is p q s =
 
 -- nothing stands before the first
 
-pub none_before : (d : RawDescription) (r : Row) → IsLeast (OverlapsBefore d r 0) None
-none_before d r n x = let k = x.before in omega arith
-
-pub no_overlap_before : (d : RawDescription) → IsLeastPair (HasOverlapBefore d 0) None
-no_overlap_before d l e x = let k = x.before in omega arith
-
 pub row_at : (d : RawDescription) (i : ℕ) (rows : List Row) (row : Row) → rows ≡ d.rows → i < length rows → row ≡ get_or rows i row
     → slice_get d.rows i ≡ Some row
 row_at d i rows row e h r = subst (λ (z : List Row). slice_get z i ≡ Some row) e (slice_get_read rows (length rows) i row refl h r)

@@ -7,8 +7,6 @@
 mod holes;
 mod pieces;
 mod rows;
-#[cfg(test)]
-mod tests;
 mod told;
 
 pub use rows::overlaps;

@@ -1,5 +1,5 @@
 -- The parts of lines of rows and modes.
-use Rattle.std.proofs.Common.{◌≡◌, ℕ, ◌≤◌, List, ◌++◌, length, refl, sym, ap, subst, ◌∙◌, arith, codes, length-append}
+use Rattle.std.proofs.Common.{◌≡◌, ℕ, List, ◌++◌, refl, sym, subst, ◌∙◌, codes}
 use Rattle.std.proofs.lemmas.List.{append_cancel_left}
 use Rattle.asm_token.specs.Tokens.{IsName}
 use Rattle.md_text.specs.Pieces.{Piece, SpellsText}
@@ -11,12 +11,6 @@ use Rattle.md_lines.specs.Parts.{IsSplitAtBar}
 use Rattle.md_parser.specs.Bars.{HasRowParts, HasModeParts}
 
 -- rows
-
-pub row_split : (line rest shown meant : List ℕ) → line ≡ codes "row " ++ rest → HasRowParts line shown meant → IsSplitAtBar rest shown meant
-row_split line rest shown meant e h = record { text = append_cancel_left (codes "row ") rest (shown ++ (codes " | " ++ meant)) (sym e ∙ h.text); first = h.first }
-
-pub row_joined : (line rest shown meant : List ℕ) → line ≡ codes "row " ++ rest → IsSplitAtBar rest shown meant → HasRowParts line shown meant
-row_joined line rest shown meant e h = record { text = e ∙ ap (λ r. codes "row " ++ r) h.text; first = h.first }
 
 pub parts_of_row : (w : ℕ) (line : List ℕ) (ps : List Piece) (t : OpenTransfer) (h : IsRowLine w line ps t) → HasRowParts line h.shown h.meant
 parts_of_row w line ps t h = record { text = h.text; first = pieces_lack_bar h.shown ps h.pieces_are.spells }
@@ -35,20 +29,7 @@ no_row_transfer w line shown meant p none ps t h =
     let P : List ℕ → Type 0 = λ bs. SpellsMoves w bs t in
     none t (subst P (row_parts_once line h.shown shown h.meant meant (parts_of_row w line ps t h) p).1 h.transfer_is)
 
-pub row_found : (w : ℕ) (line shown meant : List ℕ) (ps : List Piece) (t : OpenTransfer) → HasRowParts line shown meant → SpellsText shown ps → SpellsMoves w meant t → IsRowLine w line ps t
-row_found w line shown meant ps t p s m = record { shown = shown; meant = meant; text = p.text; pieces_are = s; transfer_is = m }
-
-pub row_short : (line shown meant : List ℕ) → HasRowParts line shown meant → length line ≤ 255 → length meant ≤ 255
-row_short line shown meant p l = omega (arith, l, ap length p.text, length-append shown (codes " | " ++ meant))
-
 -- modes
-
-pub mode_joined : (line rest name more shown meant : List ℕ) → line ≡ codes "mode " ++ rest → IsSplitAtBar rest name more → IsSplitAtBar more shown meant → IsName name → HasModeParts line name shown meant
-mode_joined line rest name more shown meant e p q n = record {
-  text = e ∙ ap (λ r. codes "mode " ++ r) (p.text ∙ ap (λ r. name ++ (codes " | " ++ r)) q.text);
-  named = n;
-  first = q.first;
-}
 
 mode_split : (line rest name shown meant : List ℕ) → line ≡ codes "mode " ++ rest → HasModeParts line name shown meant → IsSplitAtBar rest name (shown ++ (codes " | " ++ meant))
 mode_split line rest name shown meant e h = record {
@@ -58,9 +39,6 @@ mode_split line rest name shown meant e h = record {
 
 bar_once : (text a b x y : List ℕ) → IsSplitAtBar text a x → IsSplitAtBar text b y → (a ≡ b) × (x ≡ y)
 bar_once text a b x y p q = bars_once a b x y p.first q.first (sym p.text ∙ q.text)
-
-pub no_mode_word : (line : List ℕ) → ((rest : List ℕ) → line ≡ codes "mode " ++ rest → ⊥) → (name shown meant : List ℕ) → HasModeParts line name shown meant → ⊥
-no_mode_word line none name shown meant h = none (name ++ (codes " | " ++ (shown ++ (codes " | " ++ meant)))) h.text
 
 pub no_first_bar : (line rest : List ℕ) → line ≡ codes "mode " ++ rest → ((front back : List ℕ) → IsSplitAtBar rest front back → ⊥) → (name shown meant : List ℕ) → HasModeParts line name shown meant → ⊥
 no_first_bar line rest e none name shown meant h = none name (shown ++ (codes " | " ++ meant)) (mode_split line rest name shown meant e h)
@@ -97,12 +75,3 @@ pub no_mode_tree : (w : ℕ) (line name shown meant : List ℕ) → HasModeParts
 no_mode_tree w line name shown meant p none n ps t h =
     let P : List ℕ → Type 0 = λ bs. SpellsTree w bs t in
     none t (subst P (mode_parts_once line n name h.shown shown h.meant meant (parts_of_mode w line n ps t h) p).meant h.tree_is)
-
-pub mode_found : (w : ℕ) (line name copied shown meant : List ℕ) (ps : List Piece) (t : OpenTree) → HasModeParts line name shown meant → copied ≡ name → SpellsText shown ps → SpellsTree w meant t → IsModeLine w line copied ps t
-mode_found w line name copied shown meant ps t p e s m =
-    let P : List ℕ → Type 0 = λ n. IsModeLine w line n ps t in
-    subst P (sym e) (record { shown = shown; meant = meant; text = p.text; named = p.named; pieces_are = s; tree_is = m })
-
-pub mode_short : (line name shown meant : List ℕ) → HasModeParts line name shown meant → length line ≤ 255 → length meant ≤ 255
-mode_short line name shown meant p l =
-    omega (arith, l, ap length p.text, length-append name (codes " | " ++ (shown ++ (codes " | " ++ meant))), length-append shown (codes " | " ++ meant))

@@ -14,19 +14,6 @@ IsNone line (k ∷ ks) = IsNot line k × IsNone line ks
 abbrev pub keywords : List Keyword
 keywords = Version ∷ MachineName ∷ WordBits ∷ MemorySize ∷ DataBegin ∷ StackSize ∷ Register ∷ Flag ∷ Class ∷ Mode ∷ Row ∷ []
 
-pub none_of : (line : List ℕ) → IsNone line keywords → (k : Keyword) → IsNot line k
-none_of line h Version = h.0
-none_of line h MachineName = h.1.0
-none_of line h WordBits = h.1.1.0
-none_of line h MemorySize = h.1.1.1.0
-none_of line h DataBegin = h.1.1.1.1.0
-none_of line h StackSize = h.1.1.1.1.1.0
-none_of line h Register = h.1.1.1.1.1.1.0
-none_of line h Flag = h.1.1.1.1.1.1.1.0
-none_of line h Class = h.1.1.1.1.1.1.1.1.0
-none_of line h Mode = h.1.1.1.1.1.1.1.1.1.0
-none_of line h Row = h.1.1.1.1.1.1.1.1.1.1.0
-
 one_none : (line : List ℕ) (ks : List Keyword) (i : ℕ) (d : Keyword) → i < length ks → IsNone line (take i ks) → IsNot line (get_or ks i d) → IsNone line (take (suc i) ks)
 one_none line [] i d l h n = absurd (omega arith)
 one_none line (k ∷ ks) zero d l h n = (n, tt)

@@ -1,12 +1,12 @@
 -- The parts of lines of registers, flags and classes.
-use Rattle.std.proofs.Common.{◌≡◌, ◌≢◌, ℕ, ◌-◌, ◌<◌, ◌≤◌, ℤ, suc, true, List, [], ◌∷◌, ◌++◌, length, get_or, map, take, drop, refl, sym, ap, subst, ◌∙◌, arith, codes, Bor}
-use Rattle.std.proofs.lemmas.List.{append_cancel_left, length-map, take_all}
+use Rattle.std.proofs.Common.{◌≡◌, ◌≢◌, ℕ, ◌-◌, ◌<◌, ◌≤◌, ℤ, true, List, [], ◌∷◌, ◌++◌, length, map, refl, sym, ap, subst, ◌∙◌, arith, codes, Bor}
+use Rattle.std.proofs.lemmas.List.{append_cancel_left, length-map}
 use Rattle.std.specs.Fmt.{signed_decimal}
 use Rattle.std.specs.List.{flat_map}
 use Rattle.asm_token.specs.Tokens.{IsName}
 use Rattle.md_rows.specs.declared.description.Role.{Role}
 use Rattle.md_text.specs.Lines.{lacks}
-use Rattle.md_text.specs.Forms.{EachName, IsNameLine, IsNumberLine, IsRegisterLine, IsFlagLine, IsClassLine, role_word}
+use Rattle.md_text.specs.Forms.{IsNameLine, IsNumberLine, IsRegisterLine, IsFlagLine, IsClassLine, role_word}
 use Rattle.md_text.proofs.Bytes.{number_lacks, name_lacks}
 use Rattle.md_text.proofs.FormTexts.{ended, spaced_ended, ended_once}
 use Rattle.md_text.proofs.Splits.{no_such_byte}
@@ -81,9 +81,6 @@ spaced_class line rest name registers e h = record {
 pub no_class_names : (line rest : List ℕ) → line ≡ codes "class" ++ rest → ((names : List (List ℕ)) → AreSpacedNames rest names → ⊥) → (name : List ℕ) (registers : List (List ℕ)) → IsClassLine line name registers → ⊥
 no_class_names line rest e none name registers h = none (name ∷ registers) (spaced_class line rest name registers e h)
 
-pub no_class_word : (line : List ℕ) → ((rest : List ℕ) → line ≢ codes "class" ++ rest) → (name : List ℕ) (registers : List (List ℕ)) → IsClassLine line name registers → ⊥
-no_class_word line none name registers h = none (32 ∷ (name ++ flat_map (λ register. 32 ∷ register) registers)) h.text
-
 names_once : (rest : List ℕ) (ms ns : List (List ℕ)) → AreSpacedNames rest ms → AreSpacedNames rest ns → ms ≡ ns
 names_once rest ms ns p q =
     let texts = ap (λ r. r ++ 32 ∷ []) (sym p.text ∙ q.text) in
@@ -97,27 +94,6 @@ too_few_names line rest xs e h l name registers k =
 
 pub class_spaced : (line rest : List ℕ) (xs : List (Bor (List ℕ))) → line ≡ codes "class" ++ rest → AreSpacedNames rest (map (λ n. n.now) xs) → 2 ≤ length xs → SpacesClass line (map (λ n. n.now) xs)
 class_spaced line rest xs e h l = record { text = e ∙ ap (λ r. codes "class" ++ r) h.text; each = h.each; several = omega (arith, l, length-map xs (λ n. n.now)) }
-
-class_from : (line : List ℕ) (names registers : List (List ℕ)) (name : List ℕ) → SpacesClass line names → names ≡ name ∷ registers → IsClassLine line name registers
-class_from line names registers name h e =
-    let each : EachName (name ∷ registers) = subst EachName e h.each in
-    record {
-      text = h.text ∙ ap (λ ns. codes "class" ++ flat_map (λ n. 32 ∷ n) ns) e;
-      named = each.0;
-      each = each.1;
-      some = omega (arith, h.several, ap length e);
-    }
-
-head_and_tail : (xs : List (Bor (List ℕ))) (d : Bor (List ℕ)) → 0 < length xs → map (λ n. n.now) xs ≡ (get_or xs 0 d).now ∷ map (λ n. n.now) (take (length xs - 1) (drop 1 xs))
-head_and_tail [] d l = absurd (omega arith)
-head_and_tail (x ∷ xs) d l =
-    let all : take (suc (length xs) - 1) xs ≡ xs = take_all (suc (length xs) - 1) xs (omega arith) in
-    ap (λ ys. x.now ∷ map (λ n. n.now) ys) (sym all)
-
-pub class_found : (line : List ℕ) (xs : List (Bor (List ℕ))) (d : Bor (List ℕ)) (name : List ℕ) (registers : List (List ℕ)) → SpacesClass line (map (λ n. n.now) xs) → name ≡ (get_or xs 0 d).now → registers ≡ map (λ n. n.now) (take (length xs - 1) (drop 1 xs)) → IsClassLine line name registers
-class_found line xs d name registers h e f =
-    class_from line (map (λ n. n.now) xs) registers name h
-    (head_and_tail xs d (omega (arith, h.several, length-map xs (λ n. n.now))) ∙ ap (λ x. x ∷ map (λ n. n.now) (take (length xs - 1) (drop 1 xs))) (sym e) ∙ ap (λ ys. name ∷ ys) (sym f))
 
 -- names and numbers behind a word
 

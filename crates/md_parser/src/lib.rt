@@ -16,13 +16,9 @@ mod bars;
 mod declared;
 mod fault;
 mod form;
-#[cfg(test)]
-mod form_tests;
 mod keywords;
 mod owned;
 mod plain;
-#[cfg(test)]
-mod tests;
 mod text;
 
 pub use fault::FormFault;

@@ -15,8 +15,6 @@ mod numbers;
 mod reader;
 mod refused;
 mod rows;
-#[cfg(test)]
-mod tests;
 mod told;
 
 pub use reader::read_description;

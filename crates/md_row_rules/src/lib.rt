@@ -8,8 +8,6 @@
 #![tactic(auto)]
 
 mod row_rules;
-#[cfg(test)]
-mod tests;
 mod transfers;
 
 pub use row_rules::{RowRule, least_row_line};

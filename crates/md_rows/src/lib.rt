@@ -10,8 +10,6 @@ mod instance;
 pub mod laws;
 mod print;
 mod row;
-#[cfg(test)]
-mod tests;
 
 pub use description::{FlagName, RawDescription, Register, Role};
 pub use instance::{Binding, Bound, Instance};

@@ -14,15 +14,11 @@ mod heading;
 mod known;
 mod lines;
 mod names;
-mod numbered;
 mod reserved;
 mod roles;
 mod slots;
-#[cfg(test)]
-mod tests;
 mod told;
 mod uses;
 
 pub use lines::{LineRule, least_line};
-pub use numbered::is_numbered;
 pub use told::{told_before_transfers, told_of_holes};

@@ -14,6 +14,3 @@ pub use figures::{Frame, does_shape};
 pub use patterns::{Pattern, pattern_of};
 pub use search::Subject;
 pub use table::{SHAPES, Shape, ShapeTable, shapes};
-
-#[cfg(test)]
-mod tests;

@@ -50,9 +50,6 @@ digits_pass (d ∷ ds) h =
     let both = and_parts (is_ascii_digit d) (all_ascii_digits ds) h in
     and_true (is_ascii_digit d) (list_all is_ascii_digit ds) both.0 (digits_pass ds both.1)
 
-decimal_lacks : (b n : ℕ) → n < 2 ^ 64 → is_ascii_digit b ≡ false → lacks b (decimal n) ≡ true
-decimal_lacks b n l f = lacks_passing is_ascii_digit b (decimal n) f (digits_pass (decimal n) (digits_decimal own n l))
-
 -- the bytes of numbers
 abbrev pub is_number_byte : ℕ → Bool
 is_number_byte c = is_ascii_digit c || eqb c 45

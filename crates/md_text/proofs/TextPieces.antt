@@ -109,12 +109,6 @@ next_slot s rest cs ps q h e =
 
 -- nothing
 
-pub no_pieces : (b : ℕ) (bs cs : List ℕ) (ps : List Piece) → eqb b 32 ≡ false → eqb b 60 ≡ false → BeginsNoToken (b ∷ bs) → SpellsPieces cs ps → cs ≡ b ∷ bs → ⊥
-no_pieces b bs _ _ s l none at_end e = empty_is_not b bs e
-no_pieces b bs _ _ s l none (after_space cs ps h) e = heads_apart b 32 bs cs s (sym e)
-no_pieces b bs _ _ s l none (literal t cs ps i h) e = none t cs i.token (sym e)
-no_pieces b bs _ _ s l none (hole k cs ps q h) e = heads_apart b 60 bs (slot_text k ++ 62 ∷ cs) l (sym e)
-
 -- a text has at most one list of pieces
 pub pieces_once : (bs : List ℕ) (ps qs : List Piece) → SpellsPieces bs ps → SpellsPieces bs qs → ps ≡ qs
 pieces_once _ _ qs at_end k = sym (nothing_left [] qs k refl)

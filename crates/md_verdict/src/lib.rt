@@ -9,8 +9,6 @@
 
 mod accepted;
 mod line;
-#[cfg(test)]
-mod tests;
 
 pub use accepted::{Accepted, accept};
 pub use line::verdict_line;

@@ -1,6 +1,7 @@
 -- The normal form of a well-formed transfer does what the transfer does.
-use Rattle.std.proofs.Common.{◌≡◌, ℕ, zero, suc, ◌+◌, ◌-◌, ◌/◌, ◌%◌, Bool, true, false, ◌&&◌, cond, Option, Some, None, Result, Ok, Err, List, [], ◌∷◌, arith, refl, sym, ap, subst, ◌∙◌}
+use Rattle.std.proofs.Common.{◌≡◌, ℕ, zero, suc, ◌+◌, ◌-◌, ◌/◌, ◌%◌, Bool, true, false, ◌&&◌, cond, Option, Some, None, Result, Ok, Err, List, [], ◌∷◌, arith, refl, sym, ap, subst, ◌∙◌, inl, inr, ◌⊎◌}
 use Rattle.std.specs.Prelude.{◌==◌, nat_le, nat_lt, if◌then◌else◌}
+use Rattle.std.specs.List.{AllByRecursion}
 use Rattle.std.proofs.lemmas.List.Elements.{recursion_from_All}
 use Rattle.std.proofs.lemmas.Bool.Decides.{nat_tests}
 use Rattle.rtl_word.specs.Words.{IsWordSize, word_sxb}
@@ -17,21 +18,22 @@ use Rattle.rtl_tree.specs.declared.expressions.Width.TheVariants.{Byte, Full}
 use Rattle.rtl_tree.specs.declared.expressions.UnOp.TheVariants.{Sxb}
 use Rattle.rtl_tree.specs.declared.expressions.BinOp.TheVariants.{And, Pair, When}
 use Rattle.rtl_norm.specs.Normal.{finish, norm}
-use Rattle.rtl_norm.specs.Transfers.{stored_byte, norm_goal, norm_value, norm_moves, IsGoalFitting}
+use Rattle.rtl_norm.specs.Transfers.{stored_byte, norm_goal, norm_value, norm_move, norm_moves, IsGoalFitting}
 use Rattle.rtl_norm.proofs.Rewrites.{Rewrites, folds, swaps, joins, drops, goes, none_some}
 use Rattle.rtl_norm.proofs.Finish.{finish_keeps, fits_kept, norm_fits}
+use Rattle.rtl_norm.proofs.Settled.{norm_norm}
 use Rattle.rtl_effect.specs.Views.{Stop, Mark, View, Seen, bind, width_of, touched, unary_on, binary_on, seen}
-use Rattle.rtl_effect.specs.Effects.{assigned_by, assigned, Storing, storing_by, storing, is_input, takes, needed, mark_of_two, marked, target, chosen, aimed, jump, Fine, done, tested_cell, place_of, tested_by, tested, Patch, patch_of, byte_of, patched, plain, plain_mark, cell_after, mark_after, event, went, input_after, next_in, cells_after, Done, view_after, effect}
+use Rattle.rtl_effect.specs.Effects.{assigned_by, assigned, Storing, storing_by, storing, is_input, takes, needed, mark_of_two, marked, place_at, target, chosen, aimed, jump, Fine, done, tested_cell, place_of, tested_by, tested, Patch, patch_of, byte_of, patched, plain, plain_mark, cell_after, mark_after, event, went, input_after, next_in, cells_after, Done, view_after, effect}
 use Rattle.rtl_norm_value.specs.Kept.{IsWordView}
-use Rattle.rtl_norm_value.specs.Effect.{IsSameView, IsSameEffect, both_stop, both_do, AreLabelsPlaces, EffectIsKept}
+use Rattle.rtl_norm_value.specs.Effect.{IsSameView, IsSameEffect, both_stop, both_do, AreLabelsPlaces, IsNormalJump, HasNormalJump, jump_in_form, with_normal_jump, EffectIsKept, NormalJumpIsKept, JumpIsPlace, NormalFormHasNormalJump}
 use Rattle.rtl_norm_value.proofs.Seen.{seen_is_kept, word_is_kept, seen_kept, word_kept, norm_pair}
-use Rattle.rtl_norm_value.proofs.Sorted.{IsFlagValue, IsJumpTree, IsSorted, AreSorted, sorted_moves}
+use Rattle.rtl_norm_value.proofs.Alike.{same_effect_swap, same_effect_trans}
+use Rattle.rtl_norm_value.proofs.Sorted.{IsFlagValue, IsJumpTree, IsSorted, IsSortedMove, AreSorted, sorted_moves}
 
 -- what the laws need of a view
 record Ground (w : ℕ) (v : View) : Type 0 where
   size : IsWordSize w
   words : IsWordView w v
-  places : AreLabelsPlaces v
 
 kept : (w : ℕ) (v : View) → Ground w v → (t : Tree) → IsFitting w t → IsWordTree t → seen w (norm w t) v ≡ seen w t v
 kept w v g t f h = seen_is_kept w t v g.size g.words f h
@@ -46,11 +48,14 @@ marked_kept w v g NoPair f h = refl
 marked_kept w v g _ f h = absurd h
 
 -- jumps
-target_seen : (w : ℕ) (v : View) → AreLabelsPlaces v → (t : Tree) → target w t v ≡ seen w t v
+abbrev landed : View → Seen → Seen
+landed v r = bind r (λ x. Ok (place_at v x))
+
+target_seen : (w : ℕ) (v : View) → AreLabelsPlaces v → (t : Tree) → target w t v ≡ landed v (seen w t v)
 target_seen w v p (CodeLabel l) = ap (λ o. let r : Seen = Ok o in r) (sym (p l))
 target_seen w v p _ = refl
 
-jump_word : (w : ℕ) (v : View) → AreLabelsPlaces v → (t : Tree) → IsWordTree t → jump w t v ≡ bind (seen w t v) aimed
+jump_word : (w : ℕ) (v : View) → AreLabelsPlaces v → (t : Tree) → IsWordTree t → jump w t v ≡ bind (landed v (seen w t v)) aimed
 jump_word w v p (Binary When a b) h = absurd h.0
 jump_word w v p t h = ap (λ r. bind r aimed) (target_seen w v p t)
 
@@ -70,72 +75,128 @@ jump_sort : (t : Tree) → IsWordTree t → IsJumpTree t
 jump_sort (Binary When a b) h = absurd h.0
 jump_sort t h = h
 
-word_step : (w : ℕ) (v : View) (r : Result (Option ℕ) Stop) → Ground w v → (t u : Tree) → Rewrites w t u → IsFitting w t → IsWordTree t → jump w t v ≡ r → JumpKept w v r u
-word_step w v r g t u s f h e =
-    let k = word_kept w t u s h in
-    record {
-      fits = fits_kept w g.size t u s f;
-      sort = jump_sort u k;
-      same = jump_word w v g.places u k ∙ (ap (λ x. bind x aimed) (seen_kept w v g.size g.words t u s f h) ∙ (sym (jump_word w v g.places t h) ∙ e));
-    }
+module _ (w : ℕ) (v : View) (g : Ground w v) (p : AreLabelsPlaces v) where
+  word_step : (r : Result (Option ℕ) Stop) (t u : Tree) → Rewrites w t u → IsFitting w t → IsWordTree t → jump w t v ≡ r → JumpKept w v r u
+  word_step r t u s f h e =
+      let k = word_kept w t u s h in
+      record {
+        fits = fits_kept w g.size t u s f;
+        sort = jump_sort u k;
+        same = jump_word w v p u k ∙ (ap (λ x. bind (landed v x) aimed) (seen_kept w v g.size g.words t u s f h) ∙ (sym (jump_word w v p t h) ∙ e));
+      }
 
-when_step : (w : ℕ) (v : View) (r : Result (Option ℕ) Stop) → Ground w v → (c l u : Tree) → Rewrites w (Binary When c l) u → IsFitting w (Binary When c l) → IsWordTree l → jump w (Binary When c l) v ≡ r → JumpKept w v r u
-when_step w v r g _ _ _ (folds When a b n x) f h e = absurd (none_some n x)
-when_step w v r g _ _ _ (swaps When a b x y z) f h e = absurd (let k : false ≡ true = x in cc)
-when_step w v r g _ _ _ (joins When p a c d n x) f h e = absurd (none_some n x)
-when_step w v r g _ _ _ (drops When a c x) f h e = absurd (let k : false ≡ true = x in cc)
-when_step w v r g _ _ _ (goes a c x) f h e =
-    record {
-      fits = f.1;
-      sort = jump_sort a h;
-      same = jump_word w v g.places a h ∙ (ap (λ y. bind y aimed) (sym (target_seen w v g.places a)) ∙ (chosen_goes v c (target w a v) x ∙ e));
-    }
+  when_step : (r : Result (Option ℕ) Stop) (c l u : Tree) → Rewrites w (Binary When c l) u → IsFitting w (Binary When c l) → IsWordTree l → jump w (Binary When c l) v ≡ r → JumpKept w v r u
+  when_step r _ _ _ (folds When a b n x) f h e = absurd (none_some n x)
+  when_step r _ _ _ (swaps When a b x y z) f h e = absurd (let k : false ≡ true = x in cc)
+  when_step r _ _ _ (joins When q a c d n x) f h e = absurd (none_some n x)
+  when_step r _ _ _ (drops When a c x) f h e = absurd (let k : false ≡ true = x in cc)
+  when_step r _ _ _ (goes a c x) f h e =
+      record {
+        fits = f.1;
+        sort = jump_sort a h;
+        same = jump_word w v p a h ∙ (ap (λ y. bind y aimed) (sym (target_seen w v p a)) ∙ (chosen_goes v c (target w a v) x ∙ e));
+      }
 
-jump_step : (w : ℕ) (v : View) (r : Result (Option ℕ) Stop) → Ground w v → (t u : Tree) → Rewrites w t u → JumpKept w v r t → JumpKept w v r u
-jump_step w v r g (Binary When c l) u s p = when_step w v r g c l u s p.fits p.sort.1 p.same
-jump_step w v r g (Number n) u s p = word_step w v r g (Number n) u s p.fits p.sort p.same
-jump_step w v r g (Symbol n) u s p = word_step w v r g (Symbol n) u s p.fits p.sort p.same
-jump_step w v r g (CodeLabel l) u s p = word_step w v r g (CodeLabel l) u s p.fits p.sort p.same
-jump_step w v r g (Read c) u s p = word_step w v r g (Read c) u s p.fits p.sort p.same
-jump_step w v r g (Load d a) u s p = word_step w v r g (Load d a) u s p.fits p.sort p.same
-jump_step w v r g (Unary o a) u s p = word_step w v r g (Unary o a) u s p.fits p.sort p.same
-jump_step w v r g (Binary o a b) u s p = word_step w v r g (Binary o a b) u s p.fits p.sort p.same
-jump_step w v r g NoPair u s p = absurd p.sort
-jump_step w v r g (AnyNumber n) u s p = absurd p.sort
-jump_step w v r g (AnyName n) u s p = absurd p.sort
+  jump_step : (r : Result (Option ℕ) Stop) (t u : Tree) → Rewrites w t u → JumpKept w v r t → JumpKept w v r u
+  jump_step r (Binary When c l) u s k = when_step r c l u s k.fits k.sort.1 k.same
+  jump_step r (Number n) u s k = word_step r (Number n) u s k.fits k.sort k.same
+  jump_step r (Symbol n) u s k = word_step r (Symbol n) u s k.fits k.sort k.same
+  jump_step r (CodeLabel l) u s k = word_step r (CodeLabel l) u s k.fits k.sort k.same
+  jump_step r (Read c) u s k = word_step r (Read c) u s k.fits k.sort k.same
+  jump_step r (Load d a) u s k = word_step r (Load d a) u s k.fits k.sort k.same
+  jump_step r (Unary o a) u s k = word_step r (Unary o a) u s k.fits k.sort k.same
+  jump_step r (Binary o a b) u s k = word_step r (Binary o a b) u s k.fits k.sort k.same
+  jump_step r NoPair u s k = absurd k.sort
+  jump_step r (AnyNumber n) u s k = absurd k.sort
+  jump_step r (AnyName n) u s k = absurd k.sort
 
-jump_same : (w : ℕ) (v : View) → Ground w v → (c l d m : Tree) → seen w c v ≡ seen w d v → seen w l v ≡ seen w m v → jump w (Binary When c l) v ≡ jump w (Binary When d m) v
-jump_same w v g c l d m e h =
-    ap (λ r. bind r (λ x. bind (target w l v) (chosen v x))) e
-    ∙ ap (λ r. bind (seen w d v) (λ x. bind r (chosen v x))) (target_seen w v g.places l ∙ (h ∙ sym (target_seen w v g.places m)))
+  jump_same : (c l d m : Tree) → seen w c v ≡ seen w d v → seen w l v ≡ seen w m v → jump w (Binary When c l) v ≡ jump w (Binary When d m) v
+  jump_same c l d m e h =
+      ap (λ r. bind r (λ x. bind (target w l v) (chosen v x))) e
+      ∙ ap (λ r. bind (seen w d v) (λ x. bind r (chosen v x))) (target_seen w v p l ∙ (ap (landed v) h ∙ sym (target_seen w v p m)))
 
-jump_by_word : (w : ℕ) (v : View) → Ground w v → (t : Tree) → IsFitting w t → IsWordTree t → jump w (norm w t) v ≡ jump w t v
-jump_by_word w v g t f h =
-    jump_word w v g.places (norm w t) (word_is_kept w t v g.size g.words f h)
-    ∙ (ap (λ r. bind r aimed) (kept w v g t f h) ∙ sym (jump_word w v g.places t h))
+  word_jump : (t : Tree) → IsFitting w t → IsWordTree t → JumpKept w v (jump w t v) (norm w t)
+  word_jump t f h =
+      let k = word_is_kept w t v g.size g.words f h in
+      record {
+        fits = norm_fits w t g.size f;
+        sort = jump_sort (norm w t) k;
+        same = jump_word w v p (norm w t) k ∙ (ap (λ r. bind (landed v r) aimed) (kept w v g t f h) ∙ sym (jump_word w v p t h));
+      }
 
-jump_kept : (w : ℕ) (v : View) → Ground w v → (t : Tree) → IsFitting w t → IsJumpTree t → jump w (norm w t) v ≡ jump w t v
-jump_kept w v g (Binary When c l) f h =
-    let r = jump w (Binary When (norm w c) (norm w l)) v in
-    let P : Tree → Type 0 = λ u. JumpKept w v r u in
-    let end : P (finish w (Binary When (norm w c) (norm w l))) =
-    finish_keeps w P (λ x y s p. jump_step w v r g x y s p) (Binary When (norm w c) (norm w l))
-    (record {
-      fits = (norm_fits w c g.size f.0, norm_fits w l g.size f.1);
-      sort = (word_is_kept w c v g.size g.words f.0 h.0, word_is_kept w l v g.size g.words f.1 h.1);
-      same = refl;
-    }) in
-    end.same ∙ jump_same w v g (norm w c) (norm w l) c l (kept w v g c f.0 h.0) (kept w v g l f.1 h.1)
-jump_kept w v g (Number n) f h = refl
-jump_kept w v g (Symbol n) f h = refl
-jump_kept w v g (CodeLabel l) f h = refl
-jump_kept w v g (Read c) f h = refl
-jump_kept w v g (Load d a) f h = jump_by_word w v g (Load d a) f h
-jump_kept w v g (Unary o a) f h = jump_by_word w v g (Unary o a) f h
-jump_kept w v g (Binary o a b) f h = jump_by_word w v g (Binary o a b) f h
-jump_kept w v g NoPair f h = absurd h
-jump_kept w v g (AnyNumber n) f h = absurd h
-jump_kept w v g (AnyName n) f h = absurd h
+  when_jump : (c l : Tree) → IsFitting w (Binary When c l) → IsJumpTree (Binary When c l) → JumpKept w v (jump w (Binary When c l) v) (norm w (Binary When c l))
+  when_jump c l f h =
+      let r = jump w (Binary When (norm w c) (norm w l)) v in
+      let P : Tree → Type 0 = λ u. JumpKept w v r u in
+      let end : P (finish w (Binary When (norm w c) (norm w l))) =
+      finish_keeps w P (λ x y s k. jump_step r x y s k) (Binary When (norm w c) (norm w l))
+      (record {
+        fits = (norm_fits w c g.size f.0, norm_fits w l g.size f.1);
+        sort = (word_is_kept w c v g.size g.words f.0 h.0, word_is_kept w l v g.size g.words f.1 h.1);
+        same = refl;
+      }) in
+      record {
+        fits = end.fits;
+        sort = end.sort;
+        same = end.same ∙ jump_same (norm w c) (norm w l) c l (kept w v g c f.0 h.0) (kept w v g l f.1 h.1);
+      }
+
+  jump_normal : (t : Tree) → IsFitting w t → IsJumpTree t → JumpKept w v (jump w t v) (norm w t)
+  jump_normal (Binary When c l) f h = when_jump c l f h
+  jump_normal (Number n) f h = word_jump (Number n) f h
+  jump_normal (Symbol n) f h = word_jump (Symbol n) f h
+  jump_normal (CodeLabel l) f h = word_jump (CodeLabel l) f h
+  jump_normal (Read c) f h = word_jump (Read c) f h
+  jump_normal (Load d a) f h = word_jump (Load d a) f h
+  jump_normal (Unary o a) f h = word_jump (Unary o a) f h
+  jump_normal (Binary o a b) f h = word_jump (Binary o a b) f h
+  jump_normal NoPair f h = absurd h
+  jump_normal (AnyNumber n) f h = absurd h
+  jump_normal (AnyName n) f h = absurd h
+
+-- where the program counter is assigned, the normal form leads to the same place
+abbrev LeadsAlike : ℕ → View → Goal → Tree → Type 0
+LeadsAlike w v (ToCell Pc) t = jump w (norm w t) v ≡ jump w t v
+LeadsAlike w v _ t = Unit {0}
+
+abbrev AllLeadAlike : ℕ → View → List Move → Type 0
+AllLeadAlike w v [] = Unit {0}
+AllLeadAlike w v (m ∷ ms) = LeadsAlike w v m.to m.value × AllLeadAlike w v ms
+
+abbrev LeadsAlikeIf : ℕ → View → Option Tree → Type 0
+LeadsAlikeIf w v (Some t) = jump w (norm w t) v ≡ jump w t v
+LeadsAlikeIf w v None = Unit {0}
+
+lead_by : (w : ℕ) (v : View) (g : Goal) (t : Tree) (q : Option Tree) → LeadsAlike w v g t → LeadsAlikeIf w v q → LeadsAlikeIf w v (assigned_by g t Pc q)
+lead_by w v (ToCell Pc) t q h k = h
+lead_by w v (ToCell (Hard n)) t q h k = k
+lead_by w v (ToCell (Temp n)) t q h k = k
+lead_by w v (ToCell (Flag n)) t q h k = k
+lead_by w v (ToCell Input) t q h k = k
+lead_by w v (ToCell Output) t q h k = k
+lead_by w v (ToCell Halt) t q h k = k
+lead_by w v (ToCell (Hole n)) t q h k = k
+lead_by w v (ToMemory d a) t q h k = k
+
+jump_leads : (w : ℕ) (v : View) (ms : List Move) → AllLeadAlike w v ms → LeadsAlikeIf w v (assigned ms Pc)
+jump_leads w v [] h = tt
+jump_leads w v (m ∷ ms) h = lead_by w v m.to m.value (assigned ms Pc) h.0 (jump_leads w v ms h.1)
+
+places_lead : (w : ℕ) (v : View) → Ground w v → AreLabelsPlaces v → (to : Goal) (t : Tree) → IsFitting w t → IsSorted to t → LeadsAlike w v to t
+places_lead w v g p (ToCell Pc) t f h = (jump_normal w v g p t f h).same
+places_lead w v g p _ t f h = tt
+
+all_places_lead : (w : ℕ) (v : View) → Ground w v → AreLabelsPlaces v → (ms : List Move) → AreSorted w ms → AllLeadAlike w v ms
+all_places_lead w v g p [] h = tt
+all_places_lead w v g p (m ∷ ms) h = (places_lead w v g p m.to m.value h.0.fits.1 h.0.sort, all_places_lead w v g p ms h.1)
+
+form_leads : (w : ℕ) (v : View) (to : Goal) (t : Tree) → IsNormalJump w to t → LeadsAlike w v to t
+form_leads w v (ToCell Pc) t e = ap (λ u. jump w u v) e
+form_leads w v _ t e = tt
+
+all_forms_lead : (w : ℕ) (v : View) (ms : List Move) → AllByRecursion (λ m. IsNormalJump w m.to m.value) ms → AllLeadAlike w v ms
+all_forms_lead w v [] h = tt
+all_forms_lead w v (m ∷ ms) h = (form_leads w v m.to m.value h.0, all_forms_lead w v ms h.1)
 
 -- what is stored as a byte
 data IsStoredAlike : Seen → Seen → Type 0 where
@@ -194,27 +255,27 @@ value_then Full r q k h = ap (λ y. bind y (λ x. k)) h
 place_kept : (w : ℕ) (v : View) → Ground w v → (d : Width) (a : Tree) → IsFitting w a → IsWordTree a → place_of w d (norm w a) v ≡ place_of w d a v
 place_kept w v g d a f h = ap (λ r. bind r (touched (width_of w d) v)) (kept w v g a f h)
 
-cell_tested : (w : ℕ) (v : View) → Ground w v → (c : Cell) (t : Tree) → IsFitting w t → IsSorted (ToCell c) t → tested_cell w c (norm w t) v ≡ tested_cell w c t v
-cell_tested w v g (Hard n) t f h = ap done (kept w v g t f h)
-cell_tested w v g (Temp n) t f h = ap done (kept w v g t f h)
-cell_tested w v g (Flag n) t f h = ap done (marked_kept w v g t f h)
-cell_tested w v g Pc t f h = ap done (jump_kept w v g t f h)
-cell_tested w v g Output t f h = ap (λ r. done (bind r needed)) (kept w v g t f h)
-cell_tested w v g Halt t f h = ap (λ r. done (bind r needed)) (kept w v g t f h)
-cell_tested w v g Input t f h = refl
-cell_tested w v g (Hole n) t f h = refl
+cell_tested : (w : ℕ) (v : View) → Ground w v → (c : Cell) (t : Tree) → IsFitting w t → IsSorted (ToCell c) t → LeadsAlike w v (ToCell c) t → tested_cell w c (norm w t) v ≡ tested_cell w c t v
+cell_tested w v g (Hard n) t f h k = ap done (kept w v g t f h)
+cell_tested w v g (Temp n) t f h k = ap done (kept w v g t f h)
+cell_tested w v g (Flag n) t f h k = ap done (marked_kept w v g t f h)
+cell_tested w v g Pc t f h k = ap done k
+cell_tested w v g Output t f h k = ap (λ r. done (bind r needed)) (kept w v g t f h)
+cell_tested w v g Halt t f h k = ap (λ r. done (bind r needed)) (kept w v g t f h)
+cell_tested w v g Input t f h k = refl
+cell_tested w v g (Hole n) t f h k = refl
 
-move_tested : (w : ℕ) (v : View) → Ground w v → (to : Goal) (t : Tree) → IsGoalFitting w to → IsFitting w t → IsSorted to t → tested_by w (norm_goal w to) (norm_value w to t) v ≡ tested_by w to t v
-move_tested w v g (ToCell c) t j f h = cell_tested w v g c t f h
-move_tested w v g (ToMemory d a) t j f h =
+move_tested : (w : ℕ) (v : View) → Ground w v → (to : Goal) (t : Tree) → IsGoalFitting w to → IsFitting w t → IsSorted to t → LeadsAlike w v to t → tested_by w (norm_goal w to) (norm_value w to t) v ≡ tested_by w to t v
+move_tested w v g (ToCell c) t j f h l = cell_tested w v g c t f h l
+move_tested w v g (ToMemory d a) t j f h l =
     value_then d _ _ (done (place_of w d (norm w a) v)) (value_alike w v g d a t f h.1)
     ∙ ap (λ k. bind (seen w t v) (λ x. done k)) (place_kept w v g d a j h.0)
 
-moves_tested : (w : ℕ) (v : View) → Ground w v → (ms : List Move) → AreSorted w ms → tested w (norm_moves w ms) v ≡ tested w ms v
-moves_tested w v g [] h = refl
-moves_tested w v g (m ∷ ms) h =
-    ap (λ r. bind r (λ x. tested w (norm_moves w ms) v)) (move_tested w v g m.to m.value h.0.fits.0 h.0.fits.1 h.0.sort)
-    ∙ ap (λ k. bind (tested_by w m.to m.value v) (λ x. k)) (moves_tested w v g ms h.1)
+moves_tested : (w : ℕ) (v : View) → Ground w v → (ms : List Move) → AreSorted w ms → AllLeadAlike w v ms → tested w (norm_moves w ms) v ≡ tested w ms v
+moves_tested w v g [] h l = refl
+moves_tested w v g (m ∷ ms) h l =
+    ap (λ r. bind r (λ x. tested w (norm_moves w ms) v)) (move_tested w v g m.to m.value h.0.fits.0 h.0.fits.1 h.0.sort l.0)
+    ∙ ap (λ k. bind (tested_by w m.to m.value v) (λ x. k)) (moves_tested w v g ms h.1 l.1)
 
 -- what is assigned to a cell
 abbrev norm_if : ℕ → Option Tree → Option Tree
@@ -260,9 +321,9 @@ event_kept : (w : ℕ) (v : View) → Ground w v → (o : Option Tree) → IsSor
 event_kept w v g (Some t) h = event_same w v (norm w t) t (kept w v g t h.0 h.1)
 event_kept w v g None h = refl
 
-went_kept : (w : ℕ) (v : View) → Ground w v → (o : Option Tree) → IsSortedIf w Pc o → went w (norm_if w o) v ≡ went w o v
-went_kept w v g (Some t) h = jump_kept w v g t h.0 h.1
-went_kept w v g None h = refl
+went_kept : (w : ℕ) (v : View) (o : Option Tree) → LeadsAlikeIf w v o → went w (norm_if w o) v ≡ went w o v
+went_kept w v (Some t) h = h
+went_kept w v None h = refl
 
 cell_kept : (w : ℕ) (v : View) → Ground w v → (o : Option Tree) (old : Option ℕ) → IsSortedIf w (Hard 0) o → cell_after w (norm_if w o) v old ≡ cell_after w o v old
 cell_kept w v g (Some t) old h = ap plain (kept w v g t h.0 h.1)
@@ -401,6 +462,7 @@ view_kept w v g ms h p q k = record {
   symbols = λ n. refl;
   labels = λ l. refl;
   targets = λ l. refl;
+  places = λ n. refl;
   input = ap (λ t. input_after t v.input) (takes_kept w ms h);
 }
 
@@ -420,16 +482,16 @@ parts_same (Ok f) (Ok o) (Ok h) (Ok q) _ _ go to (leaves x y e) j =
     both_do (record { view = go x; place = q; output = o; halt = h }) (record { view = to y; place = q; output = o; halt = h })
     (record { view = j x y e; place = refl; output = refl; halt = refl })
 
-sorted_effect : (w : ℕ) (v : View) → Ground w v → (ms : List Move) → AreSorted w ms → IsSameEffect (effect w (norm_moves w ms) v) (effect w ms v)
-sorted_effect w v g ms h =
+sorted_effect : (w : ℕ) (v : View) → Ground w v → (ms : List Move) → AreSorted w ms → AllLeadAlike w v ms → IsSameEffect (effect w (norm_moves w ms) v) (effect w ms v)
+sorted_effect w v g ms h l =
     let ns = norm_moves w ms in
-    let test : tested w ns v ≡ tested w ms v = moves_tested w v g ms h in
+    let test : tested w ns v ≡ tested w ms v = moves_tested w v g ms h l in
     let output : event w (assigned ns Output) v ≡ event w (assigned ms Output) v =
     ap (λ o. event w o v) (assigned_norm w Output ms) ∙ event_kept w v g (assigned ms Output) (assigned_sorted w Output ms h) in
     let halt : event w (assigned ns Halt) v ≡ event w (assigned ms Halt) v =
     ap (λ o. event w o v) (assigned_norm w Halt ms) ∙ event_kept w v g (assigned ms Halt) (halt_sorted w (assigned ms Halt) (assigned_sorted w Halt ms h)) in
     let place : went w (assigned ns Pc) v ≡ went w (assigned ms Pc) v =
-    ap (λ o. went w o v) (assigned_norm w Pc ms) ∙ went_kept w v g (assigned ms Pc) (assigned_sorted w Pc ms h) in
+    ap (λ o. went w o v) (assigned_norm w Pc ms) ∙ went_kept w v (assigned ms Pc) (jump_leads w v ms l) in
     let P : Option Storing → Type 0 = λ o. IsPatchAlike (patch_of w o v) (patch_of w (storing ms) v) in
     let patch : P (storing ns) = subst P (sym (storing_norm w ms)) (patch_kept w v g (storing ms) (storing_sorted w ms h)) in
     let all = parts_same (tested w ms v) (event w (assigned ms Output) v) (event w (assigned ms Halt) v) (went w (assigned ms Pc) v)
@@ -442,7 +504,85 @@ sorted_effect w v g ms h =
     let with_place = ap (λ o. parts (tested w ms v) (event w (assigned ms Output) v) (event w (assigned ms Halt) v) o (patch_of w (storing ns) v) to) place in
     subst R (sym (with_test ∙ (with_output ∙ (with_halt ∙ with_place)))) all
 
+leads_of : (w : ℕ) (v : View) → Ground w v → (ms : List Move) → AreSorted w ms → AreLabelsPlaces v ⊎ HasNormalJump w ms → AllLeadAlike w v ms
+leads_of w v g ms h (inl p) = all_places_lead w v g p ms h
+leads_of w v g ms h (inr n) = all_forms_lead w v ms (recursion_from_All _ ms n)
+
 pub effect_is_kept : EffectIsKept
 effect_is_kept w ms v z k p h f l =
-    sorted_effect w v (record { size = z; words = k; places = p }) ms
-    (sorted_moves w ms (recursion_from_All _ ms h.placed) (recursion_from_All _ ms f) (recursion_from_All _ ms l))
+    let g : Ground w v = record { size = z; words = k } in
+    let s = sorted_moves w ms (recursion_from_All _ ms h.placed) (recursion_from_All _ ms f) (recursion_from_All _ ms l) in
+    sorted_effect w v g ms s (leads_of w v g ms s p)
+
+-- the jump in its normal form
+
+-- a view in which labels are their places, since they have none
+abbrev unlabelled : View → View
+unlabelled v = record v { labels = λ l. None; targets = λ l. None }
+
+unlabelled_words : (w : ℕ) (v : View) → IsWordView w v → IsWordView w (unlabelled v)
+unlabelled_words w v k = record { cells = k.cells; bytes = k.bytes; symbols = k.symbols; labels = λ l n e. absurd (grind (arith, e)) }
+
+sorted_form : (w : ℕ) (v : View) → Ground w v → (to : Goal) (t : Tree) → IsSortedMove w (record { to = to; value = t }) → IsSortedMove w (record { to = to; value = jump_in_form w to t })
+sorted_form w v g (ToCell Pc) t h =
+    let u : Ground w (unlabelled v) = record { size = g.size; words = unlabelled_words w v g.words } in
+    let k = jump_normal w (unlabelled v) u (λ l. refl) t h.fits.1 h.sort in
+    record { fits = (tt, k.fits); sort = k.sort; input = ap is_input (norm_norm w t) }
+sorted_form w v g (ToCell (Hard n)) t h = h
+sorted_form w v g (ToCell (Temp n)) t h = h
+sorted_form w v g (ToCell (Flag n)) t h = h
+sorted_form w v g (ToCell Input) t h = h
+sorted_form w v g (ToCell Output) t h = h
+sorted_form w v g (ToCell Halt) t h = h
+sorted_form w v g (ToCell (Hole n)) t h = h
+sorted_form w v g (ToMemory d a) t h = h
+
+sorted_forms : (w : ℕ) (v : View) → Ground w v → (ms : List Move) → AreSorted w ms → AreSorted w (with_normal_jump w ms)
+sorted_forms w v g [] h = tt
+sorted_forms w v g (m ∷ ms) h = (sorted_form w v g m.to m.value h.0, sorted_forms w v g ms h.1)
+
+form_normal : (w : ℕ) (v : View) (to : Goal) (t : Tree) → LeadsAlike w v to (jump_in_form w to t)
+form_normal w v (ToCell Pc) t = ap (λ u. jump w u v) (norm_norm w t)
+form_normal w v (ToCell (Hard n)) t = tt
+form_normal w v (ToCell (Temp n)) t = tt
+form_normal w v (ToCell (Flag n)) t = tt
+form_normal w v (ToCell Input) t = tt
+form_normal w v (ToCell Output) t = tt
+form_normal w v (ToCell Halt) t = tt
+form_normal w v (ToCell (Hole n)) t = tt
+form_normal w v (ToMemory d a) t = tt
+
+forms_normal : (w : ℕ) (v : View) (ms : List Move) → AllLeadAlike w v (with_normal_jump w ms)
+forms_normal w v [] = tt
+forms_normal w v (m ∷ ms) = (form_normal w v m.to m.value, forms_normal w v ms)
+
+value_again : (w : ℕ) (to : Goal) (t : Tree) → norm_value w to (jump_in_form w to t) ≡ norm_value w to t
+value_again w (ToCell Pc) t = norm_norm w t
+value_again w _ t = refl
+
+moves_again : (w : ℕ) (ms : List Move) → norm_moves w (with_normal_jump w ms) ≡ norm_moves w ms
+moves_again w [] = refl
+moves_again w (m ∷ ms) =
+    ap (λ t. record { to = norm_goal w m.to; value = t } ∷ norm_moves w (with_normal_jump w ms)) (value_again w m.to m.value)
+    ∙ ap (λ rest. norm_move w m ∷ rest) (moves_again w ms)
+
+pub normal_jump_is_kept : NormalJumpIsKept
+normal_jump_is_kept w ms v z k h f l =
+    let g : Ground w v = record { size = z; words = k } in
+    let s = sorted_moves w ms (recursion_from_All _ ms h.placed) (recursion_from_All _ ms f) (recursion_from_All _ ms l) in
+    let P : List Move → Type 0 = λ ns. IsSameEffect (effect w ns v) (effect w (with_normal_jump w ms) v) in
+    subst P (moves_again w ms) (sorted_effect w v g (with_normal_jump w ms) (sorted_forms w v g ms s) (forms_normal w v ms))
+
+pub jump_is_place : JumpIsPlace
+jump_is_place w ms v z k p h f l =
+    same_effect_trans _ _ _ (same_effect_swap _ _ (normal_jump_is_kept w ms v z k h f l)) (effect_is_kept w ms v z k (inl p) h f l)
+
+form_of_value : (w : ℕ) (to : Goal) (t : Tree) → jump_in_form w (norm_goal w to) (norm_value w to t) ≡ norm_value w to t
+form_of_value w (ToCell Pc) t = norm_norm w t
+form_of_value w _ t = refl
+
+pub normal_form_has_normal_jump : NormalFormHasNormalJump
+normal_form_has_normal_jump w [] = refl
+normal_form_has_normal_jump w (m ∷ ms) =
+    ap (λ t. record { to = norm_goal w m.to; value = t } ∷ with_normal_jump w (norm_moves w ms)) (form_of_value w m.to m.value)
+    ∙ ap (λ rest. norm_move w m ∷ rest) (normal_form_has_normal_jump w ms)

@@ -8,8 +8,6 @@ mod folding;
 mod moves;
 mod rules;
 mod steps;
-#[cfg(test)]
-mod tests;
 mod transfers;
 
 pub use steps::normalise;

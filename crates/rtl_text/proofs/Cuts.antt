@@ -14,13 +14,6 @@ pub record LexedTo (text rest : List ℕ) (ts : List Token) (at : ℕ) : Type 0 
   pub stuck : (p : ℕ) → Stuck rest p → Stuck text (at + p)
   pub place : at + length rest ≡ length text
 
-pub at_front : (text : List ℕ) → LexedTo text text [] 0
-at_front text = record {
-  onward = λ us h. h;
-  stuck = λ p h. (let P : ℕ → Type 0 = λ q. Stuck text q in let e : p ≡ 0 + p = omega arith in subst P e h);
-  place = omega arith;
-}
-
 before_token : (text : List ℕ) (t : Token) (n : ℕ) (us : List Token) → LongestToken text t n → Lexes (drop n text) us → Lexes text (t ∷ us)
 before_token text t n us l h =
     let P : List ℕ → Type 0 = λ ds. Lexes ds (t ∷ us) in

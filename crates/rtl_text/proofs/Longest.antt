@@ -12,7 +12,7 @@ use Rattle.asm_token.proofs.Bytes.{start_is_name}
 use Rattle.asm_token.proofs.Lengths.{prefix_at_least}
 use Rattle.rtl_spelling.specs.declared.signs.Sign.{Sign}
 use Rattle.rtl_spelling.specs.declared.signs.Sign.TheVariants as sign
-use Rattle.rtl_spelling.specs.Tokens.{Token, Word, Number, Mark, is_nonzero_digit, IsMagnitude, IsNumber, sign_bytes, spelling, IsToken, Longest, BeginsNoToken}
+use Rattle.rtl_spelling.specs.Tokens.{Token, Word, Number, Mark, is_nonzero_digit, IsMagnitude, IsNumber, sign_bytes, spelling, IsToken, Longest}
 use Rattle.rtl_text.specs.Length.{word_length, magnitude_length, negative_length, number_length, is_mark, minus_length, mark_length, token_length, LongestToken}
 
 nonzero_is_digit : (b : ℕ) → is_nonzero_digit b ≡ true → is_ascii_digit b ≡ true
@@ -150,12 +150,6 @@ longest_token text t n h e l m = record {
   bytes = l;
   longest = longest_at t (drop n text) (let same : token_length (spelling t ++ drop n text) ≡ token_length text = ap token_length (sym e) in omega arith);
 }
-
-pub no_token : (text : List ℕ) → token_length text ≡ 0 → BeginsNoToken text
-no_token text z t rest h e =
-    let most : length (spelling t) ≤ token_length text = rw e (token_at_most t rest h) in
-    let some : 0 < length (spelling t) = some_bytes t h in
-    absurd (omega arith)
 
 -- the kinds are apart by the first byte
 

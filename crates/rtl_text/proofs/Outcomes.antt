@@ -27,9 +27,6 @@ use Rattle.rtl_text.specs.declared.trouble.Trouble.TheVariants as stop
 some_same : {A : Type 0} (x y : A) → Some x ≡ Some y → x ≡ y
 some_same x y e = cc
 
-one_said : Move → Said
-one_said m = record { to = Some m.to; value = m.value }
-
 collected_on : (s : Said) (ss : List Said) (g : Option Goal) (o : Option (List Move)) (ms : List Move) → s.to ≡ g → collected ss ≡ o
     → ((ns : List Move) → o ≡ Some ns → ss ≡ said_of ns) → collected (s ∷ ss) ≡ Some ms → s ∷ ss ≡ said_of ms
 collected_on s ss None o ms a b h e = absurd (let z : collected (s ∷ ss) ≡ None = rw a in cc)

@@ -44,6 +44,3 @@ pub use said::Assignment;
 pub use token::Token;
 pub use trees::tree;
 pub use trouble::Trouble;
-
-#[cfg(test)]
-mod tests;

@@ -81,7 +81,7 @@ fn name_at(list: &NameList, place: u16) -> &[u8]
     ensures { result.now ≡ get_or list.now place [] }
 {
     match list.get(usize::from(place)) {
-        Some(name) => name.bytes(),
+        Some(name) => name,
         None => b"",
     }
 }

@@ -1,5 +1,6 @@
 -- Names of C: letters, digits and underscores, no digit first (C11 6.4.2.1).
-use Rattle.std.specs.Prelude.{ℕ, ◌<◌, ◌≤◌, ◌≡◌, ◌≢◌, ◌⊎◌, List, ◌∷◌, length, All, AllPairs}
+use Rattle.std.specs.Prelude.{ℕ, ◌<◌, ◌≤◌, ◌≡◌, ◌≢◌, ◌⊎◌, List, ◌∷◌, Vec, length, map, All, AllPairs}
+use Rattle.std.proofs.Common.{Global}
 use Rattle.std.specs.Char.{IsAsciiDigit}
 
 -- an underscore, a digit, or a letter of either case
@@ -18,3 +19,7 @@ pub record AreNames (ns : List (List ℕ)) : Type 0 where
   pub names : All IsName ns
   pub different : AllPairs (λ m n. m ≢ n) ns
   pub many : length ns ≤ 65536
+
+-- the names that are kept as vectors
+abbrev pub names_of : List (Vec ℕ Global) → List (List ℕ)
+names_of vs = map (λ v. v.items) vs

@@ -1,9 +1,10 @@
 //! The names that trees mention by number.
 
-ghost use Rattle.std.specs.Prelude.{[], All, Contains, IsTrue, MatchOption, Ok, Some, if◌then◌else◌, is_ok, length, slice_get, ◌++◌, ◌<◌, ◌≤◌, ◌∷◌, ◌↔◌, ◌≡◌};
+ghost use Rattle.std.specs.Prelude.{[], All, Contains, IfSome, IsTrue, MatchOption, Ok, Some, if◌then◌else◌, is_ok, length, slice_get, take, ◌++◌, ◌<◌, ◌≤◌, ◌∷◌, ◌↔◌, ◌≡◌};
 ghost use Rattle.rtl_tree.specs.Names.{AreNames, IsName, IsNameByte};
 
 use crate::memory::NoMemory;
+use indexmap::IndexSet;
 use std::alloc::Global;
 use std::marker::Model;
 
@@ -59,21 +60,21 @@ impl Name {
     }
 }
 
-/// At most 65,536 different names, which contracts see as the list of their bytes.
-#[derive(Debug, Drop)]
+/// At most 65,536 different names, which contracts see as the list of their bytes. A name is found by its hash.
+#[derive(Drop)]
 pub struct NameList {
-    list: Vec<Name>,
+    set: IndexSet<Vec<u8>>,
 }
 
 impl Model for NameList {
     ghost use Rattle.std.specs.Prelude.{List, ℕ};
-    ghost use Rattle.rtl_tree.specs.Names.{AreNames};
+    ghost use Rattle.rtl_tree.specs.Names.{AreNames, names_of};
 
     ghost Value = { List (List ℕ) };
 
-    ghost view = { λ n. n.list.items };
+    ghost view = { λ n. names_of n.set.keys };
 
-    ghost invariant = { λ n. AreNames n.list.items };
+    ghost invariant = { λ n. AreNames (names_of n.set.keys) };
 }
 
 impl NameList {
@@ -81,7 +82,7 @@ impl NameList {
         ensures { result ≡ [] }
     {
         NameList {
-            list: Vec::new(alloc),
+            set: IndexSet::new(alloc),
         }
     }
 
@@ -89,26 +90,28 @@ impl NameList {
         ensures len { result ≡ length self.now }
         ensures names { AreNames self.now }
     {
-        self.list.len()
+        self.set.len()
     }
 
     /// The name at a place.
-    pub fn get(&self, i: usize) -> Option<&Name>
-        ensures { MatchOption result (length self.now ≤ i) (λ n. slice_get self.now i ≡ Some n.now) }
+    pub fn get(&self, i: usize) -> Option<&[u8]>
+        ensures found { MatchOption result (length self.now ≤ i) (λ n. slice_get self.now i ≡ Some n.now) }
+        ensures name { IfSome result (λ n. IsName n.now) }
     {
-        self.list.get(i)
+        match self.set.get_index(i) {
+            Some(bytes) => Some(bytes.as_slice()),
+            None => None,
+        }
     }
 
     /// The place of a name.
     pub fn find(&self, name: &[u8]) -> Option<u16>
         ensures { MatchOption result (¬ Contains self.now name.now) (λ i. slice_get self.now i ≡ Some name.now) }
     {
-        for (i, known) in self.list.iter().enumerate() {
-            if known.bytes() == name {
-                return Some(i as u16);
-            }
+        match self.set.get_index_of(name) {
+            Some(place) => Some(place as u16),
+            None => None,
         }
-        None
     }
 
     /// Adds a name at the end. Where there is no memory the list stays as it was.
@@ -118,13 +121,20 @@ impl NameList {
         ensures { self.new ≡ (if is_ok result then self.old ++ name ∷ [] else self.old) }
     {
         let _ = name.bytes();
-        self.list.push(name)?;
+        self.set.insert(name.bytes)?;
         Ok(())
+    }
+
+    /// Keeps the first names, at most `len` of them.
+    pub fn truncate(&mut self, len: usize)
+        ensures { self.new ≡ take len self.old }
+    {
+        self.set.truncate(len);
     }
 }
 
 /// The names of a program's objects and functions. A tree mentions each by its place in its list.
-#[derive(Debug, Drop)]
+#[derive(Drop)]
 pub struct Names {
     pub objects: NameList,
     pub functions: NameList,

@@ -29,6 +29,3 @@ pub use likeness::{alike, is_commutative};
 pub use memory::NoMemory;
 pub use substitution::substitute;
 pub use transfers::{Assign, Effects, Place};
-
-#[cfg(test)]
-mod tests;

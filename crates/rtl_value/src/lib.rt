@@ -14,6 +14,3 @@ pub use conditions::{is_readable, is_sound};
 pub use evaluation::{apply_binary, value};
 pub use laws::substitution_is_setting;
 pub use state::{Bytes, FlagPair, Flags, LabelAt, Labels, State, Trap, Words};
-
-#[cfg(test)]
-mod tests;

@@ -1,12 +1,11 @@
 -- The operators on bits, and the extension of a byte.
-use Rattle.std.proofs.Common.{◌≡◌, ℕ, ◌+◌, ◌-◌, ◌%◌, ◌^◌, ◌<◌, ◌≤◌, cond, bit_and, bit_or, bit_xor, arith, sym, ap, ◌∙◌}
+use Rattle.std.proofs.Common.{◌≡◌, ℕ, ◌+◌, ◌-◌, ◌%◌, ◌^◌, ◌<◌, ◌≤◌, cond, bit_and, bit_or, arith, sym, ap, ◌∙◌}
 use Rattle.std.specs.Prelude.{nat_lt}
 use Rattle.std.proofs.lemmas.Bool.Decides.{nat_tests}
 use Rattle.std.proofs.lemmas.Nat.{and_mod, and_le_r, and_mask}
 use Rattle.std.proofs.lemmas.Nat.Bits.{same_from_bits, bit_at_or}
-use Rattle.std.specs.Int.Bits.{or_add_and, xor_add_and}
 use Rattle.std.proofs.Math.Nat.{mod-eq_of_lt}
-use Rattle.rtl_word.specs.Words.{IsWordSize, word_sxb, word_sub}
+use Rattle.rtl_word.specs.Words.{IsWordSize, word_sxb}
 use Rattle.rtl_word.proofs.Below.{by_size}
 
 pub or_assoc : (a b c : ℕ) → bit_or (bit_or a b) c ≡ bit_or a (bit_or b c)
@@ -15,14 +14,6 @@ or_assoc a b c = same_from_bits (bit_or (bit_or a b) c) (bit_or a (bit_or b c)) 
 -- the word of ones is the unit of `&`
 pub and_ones : (w a : ℕ) → a < 2 ^ w → bit_and a (2 ^ w - 1) ≡ a
 and_ones w a h = and_mask a w ∙ mod-eq_of_lt h
-
--- the bits of one word alone
-pub xor_sub : (w a b : ℕ) → IsWordSize w → bit_or a b < 2 ^ w → bit_xor a b ≡ word_sub w (bit_or a b) (bit_and a b)
-xor_sub w a b z h =
-    let x = xor_add_and a b in
-    let o = or_add_and a b in
-    by_size (λ n. bit_or a b < 2 ^ n → bit_xor a b ≡ word_sub n (bit_or a b) (bit_and a b))
-    (λ k. omega arith) (λ k. omega arith) w z h
 
 -- the extension keeps the low byte
 pub sxb_low : (w a : ℕ) → IsWordSize w → word_sxb w a % 256 ≡ a % 256

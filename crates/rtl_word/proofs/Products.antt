@@ -1,18 +1,11 @@
 -- Products, and how additions make them.
 use Rattle.std.proofs.Common.{◌≡◌, ℕ, ◌+◌, ◌*◌, ◌%◌, ◌^◌, ◌<◌, arith, sym, ap, ◌∙◌}
-use Rattle.std.proofs.Math.Nat.{mul_comm, mul_assoc, mul-add, mod-add-mod, mod-eq_of_lt}
-use Rattle.std.proofs.lemmas.Nat.{pow_pos, mul-mod_first, mul-mod_second}
+use Rattle.std.proofs.Math.Nat.{mul_comm, mul-add, mod-add-mod, mod-eq_of_lt}
+use Rattle.std.proofs.lemmas.Nat.{mul-mod_first}
 use Rattle.rtl_word.specs.Words.{word_add, word_mul}
 
 pub mul_commutes : (w a b : ℕ) → word_mul w a b ≡ word_mul w b a
 mul_commutes w a b = ap (λ n. n % 2 ^ w) (mul_comm a b)
-
-pub mul_associates : (w a b c : ℕ) → word_mul w (word_mul w a b) c ≡ word_mul w a (word_mul w b c)
-mul_associates w a b c =
-    mul-mod_first (a * b) c (2 ^ w) ∙ (ap (λ n. n % 2 ^ w) (mul_assoc a b c) ∙ sym (mul-mod_second a (b * c) (2 ^ w)))
-
-pub mul_none : (w a : ℕ) → word_mul w a 0 ≡ 0
-mul_none w a = let h : 0 % 2 ^ w ≡ 0 = mod-eq_of_lt (pow_pos w) in let k : a * 0 ≡ 0 = omega arith in ap (λ n. n % 2 ^ w) k ∙ h
 
 pub mul_one : (w a : ℕ) → a < 2 ^ w → word_mul w a 1 ≡ a
 mul_one w a h = let k : a * 1 ≡ a = omega arith in ap (λ n. n % 2 ^ w) k ∙ mod-eq_of_lt h

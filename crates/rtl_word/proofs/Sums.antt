@@ -21,24 +21,8 @@ add_neg w a b = add-mod-mod a (2 ^ w - b) (2 ^ w)
 pub zero_sub : (w a : ℕ) → word_sub w 0 a ≡ word_neg w a
 zero_sub w a = ap (λ n. n % 2 ^ w) (omega arith)
 
-pub sub_zero : (w a : ℕ) → IsWordSize w → a < 2 ^ w → word_sub w a 0 ≡ a
-sub_zero w a z = by_size (λ n. a < 2 ^ n → word_sub n a 0 ≡ a) (λ h. omega arith) (λ h. omega arith) w z
-
-pub sub_self : (w a : ℕ) → IsWordSize w → a < 2 ^ w → word_sub w a a ≡ 0
-sub_self w a z = by_size (λ n. a < 2 ^ n → word_sub n a a ≡ 0) (λ h. omega arith) (λ h. omega arith) w z
-
--- what was added is taken off again
-pub add_sub : (w a b : ℕ) → IsWordSize w → a < 2 ^ w → b < 2 ^ w → word_sub w (word_add w a b) b ≡ a
-add_sub w a b z =
-    by_size (λ n. a < 2 ^ n → b < 2 ^ n → word_sub n (word_add n a b) b ≡ a) (λ h k. omega arith) (λ h k. omega arith) w z
-
 pub neg_neg : (w a : ℕ) → IsWordSize w → a < 2 ^ w → word_neg w (word_neg w a) ≡ a
 neg_neg w a z = by_size (λ n. a < 2 ^ n → word_neg n (word_neg n a) ≡ a) (λ h. omega arith) (λ h. omega arith) w z
-
--- the negated word is the complement and one
-pub neg_not : (w a : ℕ) → IsWordSize w → a < 2 ^ w → word_neg w a ≡ word_add w (word_not w a) 1
-neg_not w a z =
-    by_size (λ n. a < 2 ^ n → word_neg n a ≡ word_add n (word_not n a) 1) (λ h. omega arith) (λ h. omega arith) w z
 
 pub not_not : (w a : ℕ) → a < 2 ^ w → word_not w (word_not w a) ≡ a
 not_not w a h = omega arith

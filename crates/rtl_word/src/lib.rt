@@ -13,8 +13,6 @@ ghost use Rattle.rtl_word.specs.Words.{mirrored, negated, IsWordSize, word_add, 
 mod bits16;
 mod bits32;
 mod laws;
-#[cfg(test)]
-mod tests;
 
 pub use bits16::W16;
 pub use bits32::W32;

@@ -5,8 +5,6 @@
 
 mod mips;
 mod pdp11;
-#[cfg(test)]
-mod tests;
 
 ghost use Rattle.std.specs.Prelude.{◌≡◌, ◌≢◌, MatchOption};
 ghost use Rattle.shipped.specs.Shipped.{name_of, text_of};

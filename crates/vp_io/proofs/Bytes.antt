@@ -1,12 +1,11 @@
 -- Known bytes that grow twice, and a file that is fetched piece by piece.
-use Rattle.std.proofs.Common.{◌≡◌, ℕ, ◌+◌, ◌-◌, ◌<◌, ◌≤◌, min, List, [], ◌++◌, append-nil, take-append-drop, drop-drop, arith, length, take, drop, Option, None, Some, sym, ap, ◌∙◌, subst, append_assoc}
+use Rattle.std.proofs.Common.{◌≡◌, ℕ, ◌+◌, ◌-◌, ◌<◌, ◌≤◌, min, List, [], ◌++◌, take-append-drop, drop-drop, arith, length, take, drop, Option, None, Some, sym, ap, ◌∙◌, subst, append_assoc}
 use Rattle.std.proofs.Common.{Ok, length-append}
 use Rattle.std.proofs.lemmas.List.{length-take-le}
-use Rattle.std.proofs.Math.Seq.{take-add, take-length}
+use Rattle.std.proofs.Math.Seq.{take-add}
 use Rattle.std.proofs.Math.ListN.{drop_of_length-le}
-use Rattle.std.specs.Io.KnownBytes.{Appends, Keeps}
+use Rattle.std.specs.Io.KnownBytes.{Appends}
 use Rattle.vp_io.specs.declared.answers.Failed.{Failed}
-use Rattle.vp_io.specs.Contents.{AppendsPart}
 use Rattle.vp_io.specs.Files.{Told, OfFile, FetchGives}
 
 -- first bytes, and then first bytes of the rest, are first bytes
@@ -30,16 +29,6 @@ file_more_told (Some files) name text into text' n le front gives e =
 pub file_more : (told told' : Told) → told' ≡ told → (name text into text' : List ℕ) (at n : ℕ) → at ≡ length text → n ≤ length into → OfFile told name (λ file. text ≡ take (length text) file) → FetchGives {E = Failed} told' name at (Ok n) into → text' ≡ text ++ take n into → OfFile told name (λ file. text' ≡ take (length text') file)
 file_more told told' same name text into text' at n is le front gives e =
     file_more_told told name text into text' n le front (subst (λ k. FetchGives {E = Failed} told name k (Ok n) into) is (subst (λ t. FetchGives {E = Failed} t name at (Ok n) into) same gives)) e
-
--- what was written whole was written in part
-pub part_of_whole : (old new : Option (List ℕ)) (bs : List ℕ) → Appends old new bs → AppendsPart old new bs
-part_of_whole old new bs whole = (length bs, subst (λ l. Appends old new l) (sym (take-length bs)) whole)
-
--- where nothing was written, no byte of any text was
-pub part_of_none : (old new : Option (List ℕ)) (bs : List ℕ) → Keeps old new → AppendsPart old new bs
-part_of_none None new bs keeps = (0, tt)
-part_of_none (Some xs) None bs keeps = absurd keeps
-part_of_none (Some xs) (Some ys) bs keeps = (0, keeps ∙ sym (append-nil xs))
 
 -- the bytes from a place on are the n that were given and those behind them
 pub front_given : (bs bs' into : List ℕ) (at n : ℕ) → bs' ≡ bs → take n into ≡ take n (drop at bs') → drop at bs ≡ take n into ++ drop (at + n) bs

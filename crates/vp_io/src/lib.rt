@@ -15,8 +15,6 @@ pub mod memory_sink;
 pub mod memory_source;
 mod piece;
 pub mod reading;
-#[cfg(test)]
-mod tests;
 pub mod writing;
 
 pub use answers::{Failed, Outcome, Reason, Which};

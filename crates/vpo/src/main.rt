@@ -51,11 +51,7 @@ fn run(rt: HostRuntime) -> Outcome {
             &mut output,
             &mut errors,
         ),
-        Err(error) => {
-            let outcome = without_words(&error);
-            report(&outcome, &mut errors);
-            outcome
-        }
+        Err(error) => report(without_words(&error), &mut errors),
     }
 }
 

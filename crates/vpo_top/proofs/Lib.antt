@@ -1,3 +1,5 @@
 mod Reports
+mod Counts
 mod Outcomes
 mod Requests
+mod Answers

@@ -1,8 +1,12 @@
 -- How the refusals of the two files come together.
-use Rattle.std.proofs.Common.{◌≡◌, ◌≢◌, ℕ, ◌≤◌, List, length, Some, None, refl, sym, subst, arith, Bool, true, false, bytes_eq, Decides}
-use Rattle.std.proofs.lemmas.Bool.Decides.{not_from_Decides}
-use Rattle.std.proofs.lemmas.Slice.Eq.{bytes_eq-Decides}
+use Rattle.std.proofs.Common.{◌≡◌, ℕ, ◌≤◌, List, length, Option, Some, None, refl, sym, subst}
+use Rattle.std.specs.Io.KnownBytes.{Appends}
+use Rattle.vp_io.specs.Contents.{AppendsPart}
+use Rattle.vpo_top.specs.Headline.{IsWritten}
 use Rattle.vp_io.proofs.Counting.{rose_by_after}
+use Rattle.vpo_top.specs.Request.{compilation}
+use Rattle.vpo_top.specs.Faults.{HasReadCause}
+use Rattle.vpo_top.proofs.Counts.{never_falls}
 use Rattle.vp_io.specs.Files.{Told, OfFile, FaultCounts, CountsOnly, RoseBy}
 use Rattle.vp_io.specs.declared.answers.Which.TheVariants.{Description, Text, Assembly, Input}
 use Rattle.vp_io.specs.declared.answers.Outcome.{Outcome}
@@ -11,7 +15,7 @@ use Rattle.md_rows.specs.declared.description.RawDescription.{RawDescription}
 use Rattle.first_path.specs.declared.source.SourceProgram.{SourceProgram}
 use Rattle.first_path.specs.FirstDescription.{IsDescription}
 use Rattle.first_path.specs.Source.{SpellsSource}
-use Rattle.vpo_top.specs.Judgement.{byte_limit, not_built, IsDescribedBy, IsSpelledBy, IsAcceptedDescription, IsAcceptedSource, Judges, JudgesDescription, JudgesSource, IsRefusalOfSource, HasFetchCause, OfFiles}
+use Rattle.vpo_top.specs.Judgement.{byte_limit, not_built, IsDescribedBy, IsSpelledBy, IsAcceptedDescription, IsAcceptedSource, Judges, JudgesDescription, JudgesSource, IsRefusalOfSource, OfFiles}
 use Rattle.first_path.specs.Compiled.{compiled_text}
 use Rattle.first_path.specs.Theorem.{IsCompiledTo}
 use Rattle.first_path.proofs.CompiledTo.{compiled_to}
@@ -44,24 +48,15 @@ description_found None name text d is short described = tt
 description_found (Some files) name text d is short described =
     let P : List ℕ → Type 0 = λ file. IsDescribedBy file d in subst P is (record { short = short; is = described })
 
--- no count has fallen
-never_falls : (name : List ℕ) (before now : FaultCounts) → CountsOnly name before now → (other : List ℕ) → before.of other ≤ now.of other
-never_falls name before now counts other = by_case (bytes_eq other name) (bytes_eq-Decides other name)
-  where
-    by_case : (b : Bool) → Decides b (other ≡ name) → before.of other ≤ now.of other
-    by_case true d = let P : List ℕ → Type 0 = λ n. before.of n ≤ now.of n in subst P (sym (d.0 refl)) counts.of_name
-    by_case false d =
-        let other_name : other ≢ name = not_from_Decides {P = other ≡ name} false d refl in omega (arith, counts.others other other_name)
-
 pub program_cause : (told told' : Told) (description source : List ℕ) (before mid now : FaultCounts) (outcome : Outcome)
     → told' ≡ told → CountsOnly description before mid → IsRefusalOfSource outcome → (outcome ≡ ReadFault Text → RoseBy told' source mid now)
-    → HasFetchCause told description source before now outcome
+    → HasReadCause (compilation description source) told before now outcome
 program_cause told told' description source before mid now (ReadFault Text) same counts refusal cause =
     let P : Told → Type 0 = λ t. RoseBy t source mid now in
     rose_by_after told source before mid now counts.total (never_falls description before mid counts source) (subst P same (cause refl))
 program_cause told told' description source before mid now (ReadFault Description) same counts refusal cause = absurd refusal
-program_cause told told' description source before mid now (ReadFault Assembly) same counts refusal cause = tt
-program_cause told told' description source before mid now (ReadFault Input) same counts refusal cause = tt
+program_cause told told' description source before mid now (ReadFault Assembly) same counts refusal cause = absurd refusal
+program_cause told told' description source before mid now (ReadFault Input) same counts refusal cause = absurd refusal
 program_cause told told' description source before mid now outcome same counts refusal cause = tt
 
 -- what was read from both files is compiled
@@ -94,3 +89,15 @@ pub write_fault_judged : (told : Told) (description source : List ℕ)
     → OfFiles told description source (λ machine_text source_text. Judges machine_text source_text WriteFault)
 write_fault_judged None description source accepted = tt
 write_fault_judged (Some files) description source accepted = accepted
+
+pub written_done : (told : Told) (description source text : List ℕ) (old new : Option (List ℕ))
+    → OfFiles told description source (λ machine_text source_text. IsCompiledTo machine_text source_text text) → Appends old new text
+    → OfFiles told description source (λ machine_text source_text. IsWritten machine_text source_text old new (Done 0))
+written_done None description source text old new compiled appends = tt
+written_done (Some files) description source text old new compiled appends = (text, compiled, appends)
+
+pub written_part : (told : Told) (description source text : List ℕ) (old new : Option (List ℕ))
+    → OfFiles told description source (λ machine_text source_text. IsCompiledTo machine_text source_text text) → AppendsPart old new text
+    → OfFiles told description source (λ machine_text source_text. IsWritten machine_text source_text old new WriteFault)
+written_part None description source text old new compiled appends = tt
+written_part (Some files) description source text old new compiled appends = (text, compiled, appends)

@@ -1,9 +1,7 @@
--- What each outcome of a check, and of a machine that is shown, says of the file, and of the objects outside.
+-- What each outcome of a check says of the file, and what is written of a machine that is shown.
 use Rattle.std.specs.Prelude.{◌≡◌, ℕ, ◌<◌, ◌≤◌, List, length, Option, ⊤}
 use Rattle.std.specs.Io.KnownBytes.{Appends}
 use Rattle.vp_io.specs.Contents.{AppendsPart}
-use Rattle.vp_io.specs.Counts.{Rose}
-use Rattle.vp_io.specs.Files.{Told, FaultCounts, RoseBy}
 use Rattle.vp_io.specs.declared.answers.Which.TheVariants.{Description}
 use Rattle.vp_io.specs.declared.answers.Outcome.{Outcome}
 use Rattle.vp_io.specs.declared.answers.Outcome.TheVariants.{Done, NoMemory, FileTooLong, BadDescription, ReadFault, WriteFault}
@@ -43,12 +41,6 @@ IsOfCheck (Done status) = status ≡ 0
 IsOfCheck WriteFault = ⊤
 IsOfCheck outcome = IsRefusalOfCheck outcome
 
--- a fault comes only where a count rose: that of the fetches of the file's name, or that of the output
-abbrev pub HasCheckCause : Told → List ℕ → FaultCounts → FaultCounts → ℕ → ℕ → Outcome → Type 0
-HasCheckCause told name before now output_before output_now WriteFault = Rose output_before output_now
-HasCheckCause told name before now output_before output_now (ReadFault Description) = RoseBy told name before now
-HasCheckCause told name before now output_before output_now _ = ⊤
-
 -- this is the line that is written of the text
 abbrev pub IsVerdictOn : List ℕ → List ℕ → Type 0
 IsVerdictOn text line = (d : RawDescription) × IsAcceptedText text d × (line ≡ verdict_line_of d)
@@ -59,19 +51,9 @@ IsVerdictWritten text old new (Done status) = (d : RawDescription) × IsAccepted
 IsVerdictWritten text old new WriteFault = (d : RawDescription) × IsAcceptedText text d × AppendsPart old new (verdict_line_of d)
 IsVerdictWritten text old new _ = ⊤
 
--- the machine's description was added to the output, some first bytes of it where the output failed
+-- the machine's description was added to the output, some first bytes of it where the output failed; nothing is fetched and no memory
+-- is taken, so no other outcome comes
 abbrev pub IsShown : Shipped → Option (List ℕ) → Option (List ℕ) → Outcome → Type 0
 IsShown machine old new (Done status) = (status ≡ 0) × Appends old new (text_of machine)
 IsShown machine old new WriteFault = AppendsPart old new (text_of machine)
 IsShown machine old new _ = ⊥
-
--- the outcomes that the showing of a machine has: it fetches nothing and takes no memory
-abbrev pub IsOfShow : Outcome → Type 0
-IsOfShow (Done status) = status ≡ 0
-IsOfShow WriteFault = ⊤
-IsOfShow _ = ⊥
-
--- the output fails only where its count rose
-abbrev pub HasWriteCause : ℕ → ℕ → Outcome → Type 0
-HasWriteCause before now WriteFault = Rose before now
-HasWriteCause before now _ = ⊤

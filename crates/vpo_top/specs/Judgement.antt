@@ -1,12 +1,11 @@
--- What each outcome of a compilation says of the two files, and of the objects outside.
-use Rattle.std.specs.Prelude.{◌≡◌, ◌≢◌, ◌⊎◌, ℕ, ◌<◌, ◌≤◌, List, length, Some, None, ⊤}
-use Rattle.vp_io.specs.Counts.{Rose}
-use Rattle.vp_io.specs.Files.{Told, FaultCounts, RoseBy}
+-- What each outcome of a compilation says of the two files.
+use Rattle.std.specs.Prelude.{◌≡◌, ◌⊎◌, ℕ, ◌<◌, ◌≤◌, List, length, Some, None, ⊤}
+use Rattle.vp_io.specs.Files.{Told}
 use Rattle.vp_io.specs.declared.answers.Reason.{Reason}
 use Rattle.vp_io.specs.declared.answers.Which.{Which}
-use Rattle.vp_io.specs.declared.answers.Which.TheVariants.{Description, Text}
+use Rattle.vp_io.specs.declared.answers.Which.TheVariants.{Description, Text, Assembly, Input}
 use Rattle.vp_io.specs.declared.answers.Outcome.{Outcome}
-use Rattle.vp_io.specs.declared.answers.Outcome.TheVariants.{Done, NoMemory, FileTooLong, BadDescription, BadSource, ReadFault, WriteFault}
+use Rattle.vp_io.specs.declared.answers.Outcome.TheVariants.{Done, NoMemory, BadWords, FileTooLong, BadDescription, BadSource, BadAssembly, ReadFault, WriteFault, Trapped, Spent}
 use Rattle.md_rows.specs.declared.description.RawDescription.{RawDescription}
 use Rattle.first_path.specs.declared.source.SourceProgram.{SourceProgram}
 use Rattle.first_path.specs.FirstDescription.{IsDescription}
@@ -81,22 +80,22 @@ Judges description source (Done status) = (status ≡ 0) × IsAcceptedDescriptio
 Judges description source WriteFault = IsAcceptedDescription description × IsAcceptedSource source
 Judges description source outcome = JudgesDescription description outcome ⊎ (IsAcceptedDescription description × JudgesSource source outcome)
 
--- a file's fault comes only where the count of the fetches of its name rose
-abbrev pub HasFetchCause : Told → List ℕ → List ℕ → FaultCounts → FaultCounts → Outcome → Type 0
-HasFetchCause told description source before now (ReadFault Description) = RoseBy told description before now
-HasFetchCause told description source before now (ReadFault Text) = RoseBy told source before now
-HasFetchCause told description source before now _ = ⊤
-
--- a fault comes only where a count rose: that of the fetches of the file's name, or that of the output
-abbrev pub HasOutsideCause : Told → List ℕ → List ℕ → FaultCounts → FaultCounts → ℕ → ℕ → Outcome → Type 0
-HasOutsideCause told description source before now output_before output_now WriteFault = Rose output_before output_now
-HasOutsideCause told description source before now output_before output_now outcome = HasFetchCause told description source before now outcome
-
 -- nothing is written where this is the outcome
 abbrev pub IsRefusal : Outcome → Type 0
+IsRefusal NoMemory = ⊤
+IsRefusal BadWords = ⊤
+IsRefusal (FileTooLong which) = ⊤
+IsRefusal (BadDescription reason) = ⊤
+IsRefusal (BadSource reason) = ⊤
+IsRefusal (BadAssembly reason) = ⊤
+IsRefusal (ReadFault Description) = ⊤
+IsRefusal (ReadFault Text) = ⊤
+IsRefusal (ReadFault Assembly) = ⊤
+IsRefusal (ReadFault Input) = ⊥
 IsRefusal (Done status) = ⊥
 IsRefusal WriteFault = ⊥
-IsRefusal _ = ⊤
+IsRefusal (Trapped kind place) = ⊥
+IsRefusal (Spent turns) = ⊥
 
 -- the outcomes that a compilation has, whatever is outside
 abbrev pub IsOfCompilation : Outcome → Type 0
@@ -108,9 +107,3 @@ IsOfCompilation outcome = IsRefusalOfDescription outcome ⊎ IsRefusalOfSource o
 abbrev pub OfFiles : Told → List ℕ → List ℕ → (List ℕ → List ℕ → Type 0) → Type 0
 OfFiles None description source P = ⊤
 OfFiles (Some files) description source P = P (files description) (files source)
-
--- no file but these two was fetched: no count has fallen, and those of other names stand still
-pub record CountsOnlyOf (description source : List ℕ) (before now : FaultCounts) : Type 0 where
-  pub total : before.total ≤ now.total
-  pub of_name : (name : List ℕ) → before.of name ≤ now.of name
-  pub others : (other : List ℕ) → other ≢ description → other ≢ source → now.of other ≡ before.of other

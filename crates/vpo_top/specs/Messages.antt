@@ -3,6 +3,7 @@ use Rattle.std.specs.Prelude.{◌≡◌, ◌⊎◌, ℕ, List, [], ◌∷◌, �
 use Rattle.std.specs.Io.KnownBytes.{Appends}
 use Rattle.vp_io.specs.Contents.{AppendsPart}
 use Rattle.vp_io.specs.Counts.{Rose}
+use Rattle.vpo_top.specs.Outside.{SinkSeen}
 use Rattle.vp_io.specs.declared.answers.Which.{Which}
 use Rattle.vp_io.specs.declared.answers.Which.TheVariants.{Description, Text, Assembly, Input}
 use Rattle.vp_io.specs.declared.answers.Outcome.{Outcome}
@@ -37,7 +38,7 @@ message outcome = codes "vpo: " ++ (complaint outcome ++ 10 ∷ [])
 abbrev pub IsLineWritten : List ℕ → Option (List ℕ) → Option (List ℕ) → ℕ → ℕ → Type 0
 IsLineWritten line old new before now = Appends old new line ⊎ (AppendsPart old new line × Rose before now)
 
--- what is written to the error stream, of which the count of faults goes from before to now
-abbrev pub IsReported : Outcome → Option (List ℕ) → Option (List ℕ) → ℕ → ℕ → Type 0
-IsReported (Done status) old new before now = (new ≡ old) × (now ≡ before)
-IsReported outcome old new before now = IsLineWritten (message outcome) old new before now
+-- what is written to the error stream: nothing where all is as asked, else the line of the outcome
+abbrev pub IsReported : {E : Type 0} → Outcome → SinkSeen E → SinkSeen E → Type 0
+IsReported (Done status) old new = new ≡ old
+IsReported outcome old new = IsLineWritten (message outcome) old.written new.written old.faults new.faults

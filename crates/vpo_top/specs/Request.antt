@@ -1,11 +1,14 @@
--- The words of the command line that ask for something.
-use Rattle.vpo_top.specs.declared.request.Request.{Request}
-use Rattle.vpo_top.specs.declared.request.Request.TheVariants.{Compile, Check as CheckOf, Show as ShowOf}
-use Rattle.std.specs.Prelude.{ℕ, Bool, false, not, cond, ◌&&◌, ◌==◌, List, [], ◌∷◌, map, Option, Some, None, bytes_eq, codes, string_bytes, String, ⊤}
+-- What the words of the command line ask for.
+use Rattle.std.specs.Prelude.{◌≡◌, ℕ, Bool, true, false, not, cond, ◌&&◌, ◌==◌, List, [], ◌∷◌, map, Option, Some, None, Result, Ok, Err, bytes_eq, codes, string_bytes, String, ⊤}
 use Rattle.std.specs.declared.alloc.Global.{Global}
-use Rattle.shipped.specs.declared.Shipped.{Shipped}
+use Rattle.vp_io.specs.declared.answers.Which.{Which}
+use Rattle.vp_io.specs.declared.answers.Which.TheVariants.{Description, Text}
 use Rattle.shipped.specs.declared.Shipped.TheVariants.{Pdp11, Mips}
 use Rattle.shipped.specs.Shipped.{name_of}
+use Rattle.vpo_top.specs.declared.request.Request.{Request}
+use Rattle.vpo_top.specs.declared.request.Request.TheVariants.{Check as CheckOf, Show as ShowOf, Cc as CcOf}
+use Rattle.vpo_top.specs.declared.request.WordsFault.{WordsFault}
+use Rattle.vpo_top.specs.declared.request.WordsFault.TheVariants.{NoMemory, BadWords}
 
 -- the bytes of each word
 abbrev pub bytes_of_words : List (String Global) → List (List ℕ)
@@ -16,55 +19,70 @@ abbrev pub is_file_word : List ℕ → Bool
 is_file_word [] = false
 is_file_word (c ∷ cs) = not (c == 45)
 
--- what is asked for: the source in a file, compiled for the machine that a file describes; whether a description is accepted; or the
--- description of a machine that comes with the program
+-- what is asked for: whether a description is accepted; the description of a machine that comes with the program, 0 for pdp11 and 1
+-- for mips; or a source, compiled for the machine that a file describes
 pub data Asked : Type 0 where
-  Compilation : (description source : List ℕ) → Asked
-  Check : (description : List ℕ) → Asked
-  Show : (machine : Shipped) → Asked
+  Check : (desc : List ℕ) → Asked
+  Show : (which : ℕ) → Asked
+  Cc : (dump plain : Bool) (desc src : List ℕ) → Asked
 
 abbrev pub asked : Request → Asked
-asked (Compile description source) = Compilation description.now source.now
-asked (CheckOf description) = Check description.now
-asked (ShowOf machine) = Show machine
-
--- cc DESC SRC
-abbrev pub compilation_of : List ℕ → List ℕ → List ℕ → Option Asked
-compilation_of command description source =
-    cond (bytes_eq command (codes "cc") && (is_file_word description && is_file_word source)) (Some (Compilation description source)) None
+asked (CheckOf desc) = Check (string_bytes desc)
+asked (ShowOf which) = Show which
+asked (CcOf dump plain desc src) = Cc dump plain (string_bytes desc) (string_bytes src)
 
 -- check DESC
 abbrev pub check_of : List ℕ → Option Asked
-check_of description = cond (is_file_word description) (Some (Check description)) None
+check_of desc = cond (is_file_word desc) (Some (Check desc)) None
 
 -- show NAME
 abbrev pub show_of : List ℕ → Option Asked
-show_of name = cond (bytes_eq name (name_of Pdp11)) (Some (Show Pdp11)) (cond (bytes_eq name (name_of Mips)) (Some (Show Mips)) None)
+show_of name = cond (bytes_eq name (name_of Pdp11)) (Some (Show 0)) (cond (bytes_eq name (name_of Mips)) (Some (Show 1)) None)
+
+-- the compilation of these two
+abbrev pub compilation : List ℕ → List ℕ → Option Asked
+compilation desc src = Some (Cc false false desc src)
+
+-- cc DESC SRC
+abbrev pub is_compilation_form : List ℕ → List ℕ → List ℕ → Bool
+is_compilation_form command desc src = bytes_eq command (codes "cc") && (is_file_word desc && is_file_word src)
+
+abbrev pub compilation_of : List ℕ → List ℕ → List ℕ → Option Asked
+compilation_of command desc src = cond (is_compilation_form command desc src) (compilation desc src) None
 
 -- what the words ask for; other words are no plain form
 abbrev pub request_of : List (List ℕ) → Option Asked
 request_of (command ∷ word ∷ []) =
     cond (bytes_eq command (codes "check")) (check_of word) (cond (bytes_eq command (codes "show")) (show_of word) None)
-request_of (command ∷ description ∷ source ∷ []) = compilation_of command description source
+request_of (command ∷ desc ∷ src ∷ []) = compilation_of command desc src
 request_of _ = None
 
--- where a compilation is asked for, P holds of the two words
-abbrev pub ForCompilation : Option Asked → (List ℕ → List ℕ → Type 0) → Type 0
-ForCompilation (Some (Compilation description source)) P = P description source
-ForCompilation _ P = ⊤
+-- the name that is asked for as this input
+abbrev pub name_asked : Option Asked → Which → Option (List ℕ)
+name_asked (Some (Check desc)) Description = Some desc
+name_asked (Some (Check desc)) _ = None
+name_asked (Some (Show which)) _ = None
+name_asked (Some (Cc dump plain desc src)) Description = Some desc
+name_asked (Some (Cc dump plain desc src)) Text = Some src
+name_asked (Some (Cc dump plain desc src)) _ = None
+name_asked None _ = None
 
--- where a check is asked for, P holds of the word
-abbrev pub ForCheck : Option Asked → (List ℕ → Type 0) → Type 0
-ForCheck (Some (Check description)) P = P description
-ForCheck _ P = ⊤
+-- some file is asked for
+abbrev pub names_a_file : Option Asked → Bool
+names_a_file (Some (Check desc)) = true
+names_a_file (Some (Show which)) = false
+names_a_file (Some (Cc dump plain desc src)) = true
+names_a_file None = false
 
--- where a machine is to be shown, P holds of it
-abbrev pub ForShow : Option Asked → (Shipped → Type 0) → Type 0
-ForShow (Some (Show machine)) P = P machine
-ForShow _ P = ⊤
+-- what is asked for leaves the input alone
+abbrev pub ReadsNoInput : Option Asked → Type 0
+ReadsNoInput (Some (Check desc)) = ⊤
+ReadsNoInput (Some (Show which)) = ⊤
+ReadsNoInput (Some (Cc dump plain desc src)) = ⊤
+ReadsNoInput None = ⊤
 
--- words that name no file
-abbrev pub NamesNoFile : Option Asked → Type 0
-NamesNoFile None = ⊤
-NamesNoFile (Some (Show machine)) = ⊤
-NamesNoFile _ = ⊥
+-- what is read of words that ask for this; the names of files take memory
+abbrev pub IsReadAs : Option Asked → Result Request WordsFault → Type 0
+IsReadAs wanted (Ok request) = wanted ≡ Some (asked request)
+IsReadAs wanted (Err BadWords) = wanted ≡ None
+IsReadAs wanted (Err NoMemory) = names_a_file wanted ≡ true

@@ -1,9 +1,13 @@
 //! `check`: whether a description is accepted.
 
-ghost use Rattle.std.specs.Prelude.{◌≡◌, ◌≤◌, length, IfOk, IfErr, IsErrOf};
+ghost use Rattle.std.specs.Prelude.{◌≡◌, ◌≤◌, length, IfOk, IfErr, IsErrOf, Some};
 ghost use Rattle.vp_io.specs.Files.{OfFile, CountsOnly, RoseBy};
 ghost use Rattle.vpo_top.specs.Judgement.{byte_limit, IsRefusal};
-ghost use Rattle.vpo_top.specs.Commands.{IsVerdictOn, IsVerdictWritten, JudgesCheck, IsOfCheck, IsRefusalOfCheck, HasCheckCause};
+ghost use Rattle.vpo_top.specs.Commands.{IsVerdictOn, JudgesCheck, IsRefusalOfCheck};
+ghost use Rattle.vpo_top.specs.Outside.{files_of, sink_of};
+ghost use Rattle.vpo_top.specs.Request.Asked.{Check};
+ghost use Rattle.vpo_top.specs.Faults.{HasReadCause, HasWriteCause, CountsOnlyAsked};
+ghost use Rattle.vpo_top.specs.Answer.{IsCheck};
 
 use crate::fetching::fetch;
 use md_fault::MdFault;
@@ -18,11 +22,10 @@ pub fn check_to<F: Files, K: Sink>(
     description: &str,
     output: &mut K,
 ) -> Outcome
-    ensures checked { OfFile (F.files files.old) description.now (λ text. IsVerdictWritten text (K.written output.old) (K.written output.new) result) }
-    ensures judged { OfFile (F.files files.old) description.now (λ text. JudgesCheck text result) }
-    ensures possible { IsOfCheck result }
-    ensures cause { HasCheckCause (F.files files.old) description.now (F.faults files.old) (F.faults files.new) (K.faults output.old) (K.faults output.new) result }
-    ensures fetched { CountsOnly description.now (F.faults files.old) (F.faults files.new) }
+    ensures answer { IsCheck description.now (files_of F.files F.faults files.old) (sink_of K.written K.faults output.old) (sink_of K.written K.faults output.new) result }
+    ensures read_cause { HasReadCause (Some (Check description.now)) (F.files files.old) (F.faults files.old) (F.faults files.new) result }
+    ensures write_cause { HasWriteCause (K.faults output.old) (K.faults output.new) result }
+    ensures fetched { CountsOnlyAsked (Some (Check description.now)) (F.faults files.old) (F.faults files.new) }
     ensures files_kept { F.files files.new ≡ F.files files.old }
     ensures untouched { IsRefusal result → output.new ≡ output.old }
 {

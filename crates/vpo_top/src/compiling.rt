@@ -4,8 +4,11 @@ ghost use Rattle.std.specs.Prelude.{◌≡◌, IfOk, IfErr, IsErrOf, OnOk, ◌�
 ghost use Rattle.rtl_word.specs.Words.{IsWordSize};
 ghost use Rattle.vp_io.specs.Files.{OfFile, CountsOnly, RoseBy};
 ghost use Rattle.first_path.specs.Theorem.{IsCompiledTo};
-ghost use Rattle.vpo_top.specs.Judgement.{IsDescribedBy, IsSpelledBy, IsAcceptedDescription, IsAcceptedSource, IsRefusalOfDescription, JudgesDescription, IsRefusalOfSource, JudgesSource, Judges, HasFetchCause, HasOutsideCause, IsRefusal, IsOfCompilation, OfFiles, CountsOnlyOf};
-ghost use Rattle.vpo_top.specs.Headline.{IsWritten};
+ghost use Rattle.vpo_top.specs.Judgement.{IsDescribedBy, IsSpelledBy, IsAcceptedDescription, IsAcceptedSource, IsRefusalOfDescription, JudgesDescription, IsRefusalOfSource, JudgesSource, Judges, IsRefusal, OfFiles};
+ghost use Rattle.vpo_top.specs.Outside.{files_of, sink_of};
+ghost use Rattle.vpo_top.specs.Request.{compilation};
+ghost use Rattle.vpo_top.specs.Faults.{HasReadCause, HasWriteCause, CountsOnlyAsked};
+ghost use Rattle.vpo_top.specs.Answer.{IsCompilation};
 
 use crate::fetching::fetch;
 use first_path::assembly::write_assembly;
@@ -31,13 +34,10 @@ pub fn compile_to<F: Files, K: Sink>(
     source: &str,
     output: &mut K,
 ) -> Outcome
-    ensures headline { OfFiles (F.files files.old) description.now source.now (λ machine_text source_text.
-        IsWritten machine_text source_text (K.written output.old) (K.written output.new) result) }
-    ensures judged { OfFiles (F.files files.old) description.now source.now (λ machine_text source_text.
-        Judges machine_text source_text result) }
-    ensures possible { IsOfCompilation result }
-    ensures cause { HasOutsideCause (F.files files.old) description.now source.now (F.faults files.old) (F.faults files.new) (K.faults output.old) (K.faults output.new) result }
-    ensures fetched { CountsOnlyOf description.now source.now (F.faults files.old) (F.faults files.new) }
+    ensures answer { IsCompilation description.now source.now (files_of F.files F.faults files.old) (sink_of K.written K.faults output.old) (sink_of K.written K.faults output.new) result }
+    ensures read_cause { HasReadCause (compilation description.now source.now) (F.files files.old) (F.faults files.old) (F.faults files.new) result }
+    ensures write_cause { HasWriteCause (K.faults output.old) (K.faults output.new) result }
+    ensures fetched { CountsOnlyAsked (compilation description.now source.now) (F.faults files.old) (F.faults files.new) }
     ensures files_kept { F.files files.new ≡ F.files files.old }
     ensures untouched { IsRefusal result → output.new ≡ output.old }
 {
@@ -65,8 +65,8 @@ fn compile<F: Files>(
     ensures judged { OfFiles (F.files files.old) description.now source.now (λ machine_text source_text.
         IfErr result (λ outcome. Judges machine_text source_text outcome)) }
     ensures possible { IfErr result (λ outcome. IsRefusalOfDescription outcome ⊎ IsRefusalOfSource outcome) }
-    ensures cause { IfErr result (λ outcome. HasFetchCause (F.files files.old) description.now source.now (F.faults files.old) (F.faults files.new) outcome) }
-    ensures fetched { CountsOnlyOf description.now source.now (F.faults files.old) (F.faults files.new) }
+    ensures cause { IfErr result (λ outcome. HasReadCause (compilation description.now source.now) (F.files files.old) (F.faults files.old) (F.faults files.new) outcome) }
+    ensures fetched { CountsOnlyAsked (compilation description.now source.now) (F.faults files.old) (F.faults files.new) }
     ensures files_kept { F.files files.new ≡ F.files files.old }
 {
     let machine = read_machine(alloc, files, description)?;

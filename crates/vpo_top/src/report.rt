@@ -1,8 +1,8 @@
 //! The line that is written to the error stream.
 
-ghost use Rattle.std.specs.Prelude.{◌≡◌, ℕ, ◌+◌, ◌≤◌, ◌++◌, ◌<◌, length, decimal};
+ghost use Rattle.std.specs.Prelude.{◌≡◌, ◌+◌, ◌≤◌, ◌++◌, length, decimal};
 ghost use Rattle.arrayvec.specs.ArrayString.{array_string_len};
-ghost use Rattle.vp_io.specs.Counts.{HasCause};
+ghost use Rattle.vpo_top.specs.Outside.{sink_of};
 ghost use Rattle.vpo_top.specs.Messages.{input_name, complaint, message, IsReported, IsLineWritten};
 
 use arrayvec::ArrayString;
@@ -14,16 +14,18 @@ const ROOM: usize = 128;
 
 type Line = ArrayString<ROOM>;
 
-/// Says on the error stream what the outcome is, where it isn't as asked. A failure of the stream has no effect but there.
-pub fn report<E: Sink>(outcome: &Outcome, errors: &mut E)
-    ensures line { IsReported outcome.now (E.written errors.old) (E.written errors.new) (E.faults errors.old) (E.faults errors.new) }
-    ensures quiet { (status : ℕ) → outcome.now ≡ Outcome.Done status → errors.new ≡ errors.old }
+/// Says on the error stream what the outcome is, where it isn't as asked, and gives it back. A failure of the stream has no effect but
+/// there.
+pub fn report<E: Sink>(outcome: Outcome, errors: &mut E) -> Outcome
+    ensures same { result ≡ outcome }
+    ensures line { IsReported outcome (sink_of E.written E.faults errors.old) (sink_of E.written E.faults errors.new) }
 {
     if let Outcome::Done(_) = outcome {
-        return;
+        return outcome;
     }
-    let line = message_of(outcome);
+    let line = message_of(&outcome);
     write_line(errors, line.as_bytes());
+    outcome
 }
 
 fn write_line<E: Sink>(errors: &mut E, line: &[u8])

@@ -1,26 +1,41 @@
 //! What the words of the command line ask for.
 
-ghost use Rattle.std.specs.Prelude.{◌≡◌, MatchOption, [], ◌∷◌, None, Some};
-ghost use Rattle.vpo_top.specs.Request.{request_of, compilation_of, show_of, bytes_of_words, is_file_word, asked};
+ghost use Rattle.vpo_top.specs.Request.{request_of, compilation_of, is_compilation_form, show_of, check_of, bytes_of_words, is_file_word, IsReadAs};
+ghost use Rattle.std.specs.Prelude.{◌≡◌, [], ◌∷◌};
 
 use shipped::Shipped;
+use std::alloc::Global;
+use thiserror::Error;
 
-/// What is asked for.
-#[derive(Clone, Copy, Debug)]
-pub enum Request<'a> {
-    /// The source in a file is compiled for the machine that a file describes.
-    Compile {
-        description: &'a str,
-        source: &'a str,
-    },
+/// What is asked for. Each name of a file isn't empty and doesn't begin with `-`.
+#[derive(Debug, Drop)]
+pub enum Request {
     /// The description in a file is judged.
     Check {
-        description: &'a str,
+        desc: String,
     },
-    /// A description that comes with the program is written.
+    /// A description that comes with the program is written: 0 is that of pdp11, 1 that of mips.
     Show {
-        machine: Shipped,
+        which: u8,
     },
+    /// The source in a file is compiled for the machine that a file describes. No words ask for the dumps of the passes, or for plain
+    /// code, so far.
+    Cc {
+        dump: bool,
+        plain: bool,
+        desc: String,
+        src: String,
+    },
+}
+
+/// Why words give no request.
+#[derive(Clone, Copy, Debug, PartialEq, Eq, Error)]
+pub enum WordsFault {
+    #[error("no memory")]
+    NoMemory,
+    /// The words have no plain form.
+    #[error("bad words")]
+    BadWords,
 }
 
 /// A word that may name a file isn't empty, and no option.
@@ -33,45 +48,78 @@ fn names_file(word: &str) -> bool
     }
 }
 
-fn read_compilation<'a>(command: &str, description: &'a str, source: &'a str) -> Option<Request<'a>>
-    ensures { MatchOption result (compilation_of command.now description.now source.now ≡ None) (λ r. compilation_of command.now description.now source.now ≡ Some (asked r)) }
+fn read_check(alloc: Global, desc: &str) -> Result<Request, WordsFault>
+    ensures { IsReadAs (check_of desc.now) result }
 {
-    if command == "cc" && names_file(description) && names_file(source) {
-        Some(Request::Compile {
-            description,
-            source,
-        })
-    } else {
-        None
+    if !names_file(desc) {
+        return Err(WordsFault::BadWords);
+    }
+    let Ok(desc) = desc.to_string(alloc) else {
+        return Err(WordsFault::NoMemory);
+    };
+    Ok(Request::Check { desc })
+}
+
+fn read_show(name: &str) -> Result<Request, WordsFault>
+    ensures { IsReadAs (show_of name.now) result }
+{
+    match Shipped::named(name) {
+        Some(Shipped::Pdp11) => Ok(Request::Show { which: 0 }),
+        Some(Shipped::Mips) => Ok(Request::Show { which: 1 }),
+        None => Err(WordsFault::BadWords),
     }
 }
 
-fn read_show<'a>(name: &str) -> Option<Request<'a>>
-    ensures { MatchOption result (show_of name.now ≡ None) (λ r. show_of name.now ≡ Some (asked r)) }
+fn asks_for_compilation(command: &str, desc: &str, src: &str) -> bool
+    ensures { result ≡ is_compilation_form command.now desc.now src.now }
 {
-    let machine = Shipped::named(name)?;
-    Some(Request::Show { machine })
+    command == "cc" && names_file(desc) && names_file(src)
 }
 
-fn read_pair<'a>(command: &str, word: &'a str) -> Option<Request<'a>>
-    ensures { MatchOption result (request_of (command.now ∷ word.now ∷ []) ≡ None) (λ r. request_of (command.now ∷ word.now ∷ []) ≡ Some (asked r)) }
+fn read_compilation(
+    alloc: Global,
+    command: &str,
+    desc: &str,
+    src: &str,
+) -> Result<Request, WordsFault>
+    ensures { IsReadAs (compilation_of command.now desc.now src.now) result }
+{
+    if !asks_for_compilation(command, desc, src) {
+        return Err(WordsFault::BadWords);
+    }
+    let Ok(desc) = desc.to_string(alloc) else {
+        return Err(WordsFault::NoMemory);
+    };
+    let Ok(src) = src.to_string(alloc) else {
+        return Err(WordsFault::NoMemory);
+    };
+    Ok(Request::Cc {
+        dump: false,
+        plain: false,
+        desc,
+        src,
+    })
+}
+
+fn read_pair(alloc: Global, command: &str, word: &str) -> Result<Request, WordsFault>
+    ensures { IsReadAs (request_of (command.now ∷ word.now ∷ [])) result }
 {
     match command {
-        "check" if names_file(word) => Some(Request::Check { description: word }),
+        "check" => read_check(alloc, word),
         "show" => read_show(word),
-        _ => None,
+        _ => Err(WordsFault::BadWords),
     }
 }
 
 /// The request of the words after the program's name, where they have a plain form.
-pub fn read_request(words: &[String]) -> Option<Request<'_>>
-    ensures { MatchOption result (request_of (bytes_of_words words.now) ≡ None) (λ r. request_of (bytes_of_words words.now) ≡ Some (asked r)) }
+pub fn read_words(alloc: Global, words: &Vec<String>) -> Result<Request, WordsFault>
+    ensures { IsReadAs (request_of (bytes_of_words words.now.items)) result }
 {
-    match words {
-        [command, word] => read_pair(command.as_str(), word.as_str()),
-        [command, description, source] => {
-            read_compilation(command.as_str(), description.as_str(), source.as_str())
+    match words.as_slice() {
+        [command, word] => read_pair(alloc, command.as_str(), word.as_str()),
+        [command, desc, src] => {
+            read_compilation(alloc, command.as_str(), desc.as_str(), src.as_str())
         }
-        _ => None,
+        _ => Err(WordsFault::BadWords),
     }
 }

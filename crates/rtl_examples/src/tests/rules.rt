@@ -131,7 +131,7 @@ const UNCHANGED: [&str; 17] = [
 ];
 
 /// Values by words of 16 bits.
-const SHORT: [(&str, &str); 8] = [
+const SHORT: [(&str, &str); 9] = [
     ("(32767 + 1)", "-32768"),
     ("(1 shl 16)", "(1 shl 16)"),
     ("(-1 shru 12)", "15"),
@@ -140,10 +140,11 @@ const SHORT: [(&str, &str); 8] = [
     ("(-1 divu 2)", "32767"),
     ("(r[1] - -32768)", "(r[1] + -32768)"),
     ("((r[1] + 32767) + 1)", "(r[1] + -32768)"),
+    ("(r[1] - 1)", "(r[1] + -1)"),
 ];
 
 /// Values by words of 32 bits.
-const LONG: [(&str, &str); 11] = [
+const LONG: [(&str, &str); 13] = [
     ("(32767 + 1)", "32768"),
     ("(1 shl 16)", "65536"),
     ("(-1 shru 28)", "15"),
@@ -155,6 +156,23 @@ const LONG: [(&str, &str); 11] = [
     ("(r[1] - -32768)", "(r[1] + 32768)"),
     ("((r[1] + 32767) + 1)", "(r[1] + 32768)"),
     ("(1 shl 32)", "(1 shl 32)"),
+    ("(r[1] - 1)", "(r[1] + -1)"),
+    ("(r[1] & 65535)", "(r[1] & 65535)"),
+];
+
+/// The tables of values of both word sizes.
+const RULES: [&[(&str, &str)]; 11] = [
+    &NUMBERS,
+    &SWAPPED,
+    &MIRRORED,
+    &DIFFERENCES,
+    &NEGATIVES,
+    &JOINED,
+    &NEUTRAL,
+    &TWICE,
+    &EXTENDED,
+    &CUT,
+    &BYTES,
 ];
 
 /// Whole transfers: the rule N13 of jumps, and the rule of byte stores.
@@ -206,89 +224,20 @@ fn wrong_value(alloc: Global, rows: &[(&str, &str)]) -> Result<Option<usize>, Te
 }
 
 #[test]
-fn numbers_alone(rt: HostRuntime) -> Result<(), Fail> {
-    assert_eq!(rt; wrong_value(rt.alloc(), &NUMBERS)?, None);
-    Ok(())
-}
-
-#[test]
-fn numbers_to_the_right(rt: HostRuntime) -> Result<(), Fail> {
-    assert_eq!(rt; wrong_value(rt.alloc(), &SWAPPED)?, None);
-    Ok(())
-}
-
-#[test]
-fn orders_are_mirrored(rt: HostRuntime) -> Result<(), Fail> {
-    assert_eq!(rt; wrong_value(rt.alloc(), &MIRRORED)?, None);
-    Ok(())
-}
-
-#[test]
-fn differences_are_sums(rt: HostRuntime) -> Result<(), Fail> {
-    assert_eq!(rt; wrong_value(rt.alloc(), &DIFFERENCES)?, None);
-    Ok(())
-}
-
-#[test]
-fn zero_less_a_tree(rt: HostRuntime) -> Result<(), Fail> {
-    assert_eq!(rt; wrong_value(rt.alloc(), &NEGATIVES)?, None);
-    Ok(())
-}
-
-#[test]
-fn two_numbers_are_joined(rt: HostRuntime) -> Result<(), Fail> {
-    assert_eq!(rt; wrong_value(rt.alloc(), &JOINED)?, None);
-    Ok(())
-}
-
-#[test]
-fn what_changes_nothing(rt: HostRuntime) -> Result<(), Fail> {
-    assert_eq!(rt; wrong_value(rt.alloc(), &NEUTRAL)?, None);
-    Ok(())
-}
-
-#[test]
-fn twice_is_not_at_all(rt: HostRuntime) -> Result<(), Fail> {
-    assert_eq!(rt; wrong_value(rt.alloc(), &TWICE)?, None);
-    Ok(())
-}
-
-#[test]
-fn bytes_are_extended_once(rt: HostRuntime) -> Result<(), Fail> {
-    assert_eq!(rt; wrong_value(rt.alloc(), &EXTENDED)?, None);
-    Ok(())
-}
-
-#[test]
-fn masks_of_the_low_byte(rt: HostRuntime) -> Result<(), Fail> {
-    assert_eq!(rt; wrong_value(rt.alloc(), &CUT)?, None);
-    Ok(())
-}
-
-#[test]
-fn bytes_are_their_masks(rt: HostRuntime) -> Result<(), Fail> {
-    assert_eq!(rt; wrong_value(rt.alloc(), &BYTES)?, None);
-    Ok(())
-}
-
-#[test]
-fn what_no_rule_changes(rt: HostRuntime) -> Result<(), Fail> {
+fn rules_by_both_word_sizes(rt: HostRuntime) -> Result<(), Fail> {
     let alloc = rt.alloc();
+    for (rule, rows) in RULES.iter().enumerate() {
+        assert_eq!(rt; wrong_value(alloc, rows)?, None, "table {rule}");
+    }
     for tree in UNCHANGED {
-        assert!(rt; value_becomes::<W16>(alloc, tree, tree)?, "{tree}");
-        assert!(rt; value_becomes::<W32>(alloc, tree, tree)?, "{tree}");
+        assert_eq!(rt; wrong_value(alloc, &[(tree, tree)])?, None, "{tree}");
     }
     Ok(())
 }
 
 #[test]
-fn words_of_16_bits(rt: HostRuntime) -> Result<(), Fail> {
+fn values_of_one_word_size(rt: HostRuntime) -> Result<(), Fail> {
     assert_eq!(rt; wrong_row::<W16>(rt.alloc(), &SHORT)?, None);
-    Ok(())
-}
-
-#[test]
-fn words_of_32_bits(rt: HostRuntime) -> Result<(), Fail> {
     assert_eq!(rt; wrong_row::<W32>(rt.alloc(), &LONG)?, None);
     Ok(())
 }

@@ -15,7 +15,7 @@ use std::alloc::Global;
 use std::test::Fail;
 
 /// The value of the first assignment that the text spells.
-fn value(alloc: Global, text: &str) -> Result<Expr, TextFault>
+pub(super) fn value(alloc: Global, text: &str) -> Result<Expr, TextFault>
     ensures { IfOk result (λ e. IsFitting 16 (tree_of e)) }
 {
     let mut transfer = read_transfer::<W16>(alloc, text.as_bytes(), &no_names(alloc))?;
@@ -35,20 +35,17 @@ fn put(alloc: Global, e: Expr, c: Cell, by: &Expr) -> Result<Expr, NoMemory>
     Ok(e)
 }
 
+/// N12: a test of a pair is a relation.
 #[test]
-fn a_sum_for_a_register(rt: HostRuntime) -> Result<(), Fail> {
+fn trees_for_cells(rt: HostRuntime) -> Result<(), Fail> {
     let alloc = rt.alloc();
     let mut load = value(alloc, "r[3] = M[r[1]]")?;
     let sum = value(alloc, "r[3] = (r[2] + 1)")?;
     substitute(alloc, &mut load, Cell::Hard(1), &sum)?;
     assert!(rt; same(&load, &value(alloc, "r[3] = M[(r[2] + 1)]")?));
-    Ok(())
-}
-
-/// N12: a test of a pair is a relation.
-#[test]
-fn a_pair_for_a_flag(rt: HostRuntime) -> Result<(), Fail> {
-    let alloc = rt.alloc();
+    let mut both = value(alloc, "r[3] = (r[1] + r[2])")?;
+    substitute(alloc, &mut both, Cell::Hard(1), &Expr::Num(7))?;
+    assert!(rt; same(&both, &value(alloc, "r[3] = (7 + r[2])")?));
     let test = value(alloc, "r[3] = (f[0] eq)")?;
     let pair = value(alloc, "f[0] = (r[1] ? 0)")?;
     let relation = put(alloc, test, Cell::Flag(0), &pair)?;

@@ -1,4 +1,4 @@
-use Rattle.md_lines.proofs.Wholes.{number_no_name, mark_no_name, nothing_no_name, no_truth}
+use Rattle.md_lines.proofs.Wholes.{number_no_name, nothing_no_name, no_truth}
 use Rattle.md_lines.proofs.fields.is_name.Goals as goal
 
 pub returns-in-Some-Number : goal.returns-in-Some-Number

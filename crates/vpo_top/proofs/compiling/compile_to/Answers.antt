@@ -1,8 +1,17 @@
-use Rattle.vpo_top.proofs.Outcomes.{done_judged, write_fault_judged}
+use Rattle.std.proofs.Common.{refl}
+use Rattle.vpo_top.proofs.Outcomes.{written_done, written_part, done_judged, write_fault_judged}
 use Rattle.vpo_top.proofs.compiling.compile_to.Goals as goal
 
-pub returns-in-Ok-write_whole-clause-judged : goal.returns-in-Ok-write_whole-clause-judged
-returns-in-Ok-write_whole-clause-judged g c = done_judged _ _ _ c.in-Ok.ensures.accepted
+pub returns-in-Ok-write_whole-clause-answer : goal.returns-in-Ok-write_whole-clause-answer
+returns-in-Ok-write_whole-clause-answer g c = record {
+  headline = written_done _ _ _ _ _ _ c.in-Ok.ensures.compiled c.in-Ok-write_whole.ensures.all;
+  judged = done_judged _ _ _ c.in-Ok.ensures.accepted;
+  possible = refl;
+}
 
-pub returns-clause-judged : goal.returns-clause-judged
-returns-clause-judged g c = write_fault_judged _ _ _ c.in-Ok.ensures.accepted
+pub returns-clause-answer : goal.returns-clause-answer
+returns-clause-answer g c = record {
+  headline = written_part _ _ _ _ _ _ c.in-Ok.ensures.compiled c.in-Err-write_whole.ensures.part;
+  judged = write_fault_judged _ _ _ c.in-Ok.ensures.accepted;
+  possible = tt;
+}

@@ -3,8 +3,5 @@ use Rattle.vpo_top.proofs.report.report.Goals as goal
 
 pub returns-clause-line : goal.returns-clause-line
 returns-clause-line g c =
-    reported _ _ _ _ _ (λ status is. c.in_default.not-Done status is)
+    reported _ _ _ (λ status is. c.in_default.not-Done status is)
     (rw (c.as_bytes.ensures.value, c.deref.ensures.0, c.message_of-line.ensures) at c.write_line.ensures)
-
-pub returns-clause-quiet : goal.returns-clause-quiet
-returns-clause-quiet g c = λ status is. absurd (c.in_default.not-Done status is)

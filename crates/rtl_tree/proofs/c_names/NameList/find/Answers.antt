@@ -1,11 +1,13 @@
-use Rattle.std.proofs.Common.{rules, ◌≡◌, ◌∙◌, refl, arith}
-use Rattle.std.specs.Prelude.{slice_get, Some}
-use Rattle.std.proofs.lemmas.Option.{slice_get_read}
+use Rattle.std.proofs.Common.{None, Some, ◌∙◌, sym}
+use Rattle.rtl_tree.proofs.FoundNames.{finds_name}
 use Rattle.rtl_tree.proofs.c_names.NameList.find.Goals as goal
 
-pub returns-then-eq : goal.returns-then-eq
-returns-then-eq c =
-    let got : slice_get c.deref-known-items.result.now c.loop-i.i ≡ Some c.known-item.result = slice_get_read _ _ _ _ refl c.loop-i-test.true c.known-item.is in
-    let equal : c.bytes.result.now ≡ c.args.name.now = search rules in
-    let list : c.deref-known-items.result.now ≡ c.args.self.now = c.deref-known-items.ensures.value ∙ c.self.view_is in
-    grind (arith, got, equal, list, c.bytes.ensures.bytes)
+pub returns-in-Some : goal.returns-in-Some
+returns-in-Some c =
+    let found = finds_name _ _ (Some c.in-Some.place) (sym c.in-Some.is ∙ c.get_index_of.ensures.index) in
+    rw (sym c.self.view_is) found
+
+pub returns-in-None : goal.returns-in-None
+returns-in-None c =
+    let lacks = finds_name _ _ None (sym c.in-None.is ∙ c.get_index_of.ensures.index) in
+    rw (sym c.self.view_is) lacks

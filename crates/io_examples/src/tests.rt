@@ -1,0 +1,4 @@
+//! What outside objects answer, and what comes with the program.
+
+mod descriptions;
+mod outside;

@@ -1,0 +1,183 @@
+//! The first forms of descriptions and sources: what is read, what is refused, and the text that is written.
+
+use first_path::assembly::write_assembly;
+use first_path::description::{DescriptionFault, read_description};
+use first_path::source::{SourceFault, read_source};
+use std::alloc::{AllocError, Global};
+use std::test::Fail;
+
+const TINY: &str =
+    "vpo 1\nname tiny\nword 16\nmemory 4096\ndata 64\nstack 1024\nreg 0 a result\nrow set <n:word>,a | r[0] = <n>\nrow put | OUT = r[0]\nrow end | HALT = r[0]\n";
+
+// Each pair is a part of the description and what stands in its place in a text that is refused.
+const REFUSED: [(&str, &str); 30] = [
+    ("vpo 1", "vpo 2"),
+    ("name tiny", "name 9"),
+    ("name tiny", "name tiny "),
+    ("word 16", "word 8"),
+    ("word 16", "word 016"),
+    ("memory 4096", "memory 4095"),
+    ("memory 4096", "memory 4094"),
+    ("memory 4096", "memory 65536"),
+    ("data 64", "data 63"),
+    ("data 64", "data 3072"),
+    ("stack 1024", "stack 1022"),
+    ("stack 1024", "stack 1025"),
+    ("stack 1024", "stack 99999999999"),
+    ("reg 0 a", "reg 64 a"),
+    ("reg 0 a", "reg 00 a"),
+    ("reg 0 a result", "reg 0 a"),
+    ("reg 0 a", "reg 0 L7"),
+    ("reg 0 a", "reg 0 _a"),
+    ("reg 0 a", "reg 0 .a"),
+    ("row set", "row  set"),
+    ("row set", "row put"),
+    ("row set", "row 7"),
+    ("row set", "row _set"),
+    ("<n:word>", "<m:word>"),
+    ("<n:word>,a", "<n:word>,a "),
+    ("<n:word>,a", "<n:word>:a"),
+    ("r[0] = <n>", "r[1] = <n>"),
+    ("OUT = r[0]", "OUT = r[0] "),
+    ("HALT = r[0]\n", "HALT = r[0]"),
+    ("HALT = r[0]\n", "HALT = r[0]\n\n"),
+];
+
+const WIDE: &str =
+    "vpo 1\nname wide\nword 32\nmemory 16777216\ndata 4096\nstack 65536\nreg 2 v0 result\nrow li v0,<n:word> | r[2] = <n>\nrow put v0 | OUT = r[2]\nrow end v0 | HALT = r[2]\n";
+
+const REFUSED_WIDE: [(&str, &str); 6] = [
+    ("memory 16777216", "memory 16777220"),
+    ("memory 16777216", "memory 16777214"),
+    ("memory 16777216", "memory 69632"),
+    ("data 4096", "data 4098"),
+    ("stack 65536", "stack 65538"),
+    ("stack 65536", "stack 1048580"),
+];
+
+// Whether the text is refused where the other part stands in it.
+fn is_refused(alloc: Global, text: &str, part: &str, other: &str) -> Result<bool, AllocError> {
+    let changed = text.replacen(alloc, part, other, 1)?;
+    Ok(matches!(
+        read_description(alloc, changed.as_bytes()),
+        Err(DescriptionFault::Refused)
+    ))
+}
+
+#[test]
+fn descriptions_are_read(rt: HostRuntime) -> Result<(), Fail> {
+    let tiny = read_description(rt.alloc(), TINY.as_bytes())?;
+    assert_eq!(rt; tiny.name.as_slice(), b"tiny".as_slice());
+    assert_eq!(rt;
+        (tiny.word, tiny.memory, tiny.base, tiny.stack),
+        (16, 4096, 64, 1024)
+    );
+    assert_eq!(rt;
+        (tiny.registers.len(), tiny.rows.len(), tiny.last),
+        (1, 3, 10)
+    );
+    let wide = read_description(rt.alloc(), WIDE.as_bytes())?;
+    assert_eq!(rt; (wide.word, wide.memory), (32, 16_777_216));
+    Ok(())
+}
+
+#[test]
+fn variants_are_refused(rt: HostRuntime) -> Result<(), Fail> {
+    for (part, other) in REFUSED {
+        assert!(rt; is_refused(rt.alloc(), TINY, part, other)?, "{other}");
+    }
+    for (part, other) in REFUSED_WIDE {
+        assert!(rt; is_refused(rt.alloc(), WIDE, part, other)?, "{other}");
+    }
+    Ok(())
+}
+
+const SOURCES: [(&[u8], &[u16], u16); 6] = [
+    (b"int main(void){return 7;}", &[], 7),
+    (b"int main(void){\nreturn 32767;\n}\n", &[], 32767),
+    (b"#include <stdio.h>\nint main(void){return 0;}", &[], 0),
+    (
+        b"#include <stdio.h>\nint main(void){putchar(72);putchar(321);return 7;}",
+        &[72, 321],
+        7,
+    ),
+    (
+        b"#include <stdio.h>\nint main(void){\nputchar(0);\nputchar(10);\nreturn 1;\n}\n",
+        &[0, 10],
+        1,
+    ),
+    (
+        b"#include <stdio.h>\nint main(void){putchar(32767);\nreturn 100;}\n",
+        &[32767],
+        100,
+    ),
+];
+
+const REFUSED_SOURCES: [&[u8]; 16] = [
+    b"",
+    b"int main(void){putchar(72);return 7;}",
+    b"#include <stdio.h>int main(void){return 7;}",
+    b"#include <stdio.h>\n\nint main(void){return 7;}",
+    b"#include <stdio.h>\nint main(void){putchar(x);return 7;}",
+    b"#include <stdio.h>\nint main(void){putchar(01);return 7;}",
+    b"#include <stdio.h>\nint main(void){putchar(32768);return 7;}",
+    b"#include <stdio.h>\nint main(void){putchar(65536);return 7;}",
+    b"#include <stdio.h>\nint main(void){putchar();return 7;}",
+    b"#include <stdio.h>\nint main(void){putchar(+1);return 7;}",
+    b"int main(void){ return 7;}",
+    b"int main(void){return 7;",
+    b"int main(void){return 7;}}",
+    b"int main(void){return 7;}\n\n",
+    b"int main(void){\n\nreturn 7;}",
+    b"int main(void)\n{return 7;}",
+];
+
+fn reads(alloc: Global, text: &[u8], calls: &[u16], status: u16) -> bool {
+    match read_source(alloc, text) {
+        Ok(program) => *program.calls.as_slice() == *calls && program.status == status,
+        Err(_) => false,
+    }
+}
+
+fn refuses(alloc: Global, text: &[u8]) -> bool {
+    matches!(read_source(alloc, text), Err(SourceFault::Refused))
+}
+
+// A source with so many calls.
+fn with_calls(alloc: Global, count: usize) -> Result<Vec<u8>, AllocError> {
+    let mut text = Vec::from_slice(alloc, b"#include <stdio.h>\nint main(void){")?;
+    for _ in 0..count {
+        text.extend_from_slice(b"putchar(65);")?;
+    }
+    text.extend_from_slice(b"return 0;}")?;
+    Ok(text)
+}
+
+#[test]
+fn sources_are_read_or_refused(rt: HostRuntime) -> Result<(), Fail> {
+    for (text, calls, status) in SOURCES {
+        assert!(rt; reads(rt.alloc(), text, calls, status), "status {status}");
+    }
+    for text in REFUSED_SOURCES {
+        assert!(rt; refuses(rt.alloc(), text));
+    }
+    let most = with_calls(rt.alloc(), 1000)?;
+    let program = read_source(rt.alloc(), &most)?;
+    assert_eq!(rt; program.calls.len(), 1000);
+    let more = with_calls(rt.alloc(), 1001)?;
+    assert!(rt; refuses(rt.alloc(), &more), "1,001 calls");
+    Ok(())
+}
+
+#[test]
+fn a_text_is_written(rt: HostRuntime) -> Result<(), Fail> {
+    let source = b"#include <stdio.h>\nint main(void){putchar(72);putchar(321);return 7;}\n";
+    let machine = read_description(rt.alloc(), TINY.as_bytes())?;
+    let program = read_source(rt.alloc(), source)?;
+    let text = write_assembly(rt.alloc(), &machine, &program)?;
+    assert_eq!(rt;
+        text.as_slice(),
+        b".text\n\tset 72,a\n\tput\n\tset 321,a\n\tput\n\tset 7,a\n\tend\n".as_slice()
+    );
+    Ok(())
+}

@@ -1,0 +1,8 @@
+//! The top call over objects in memory, by example. It offers nothing: its tests say what no clause of `vpo_top` says, that there is an
+//! answer where there is memory.
+#![tactic(auto)]
+
+#[cfg(test)]
+mod cases;
+#[cfg(test)]
+mod tests;

@@ -1,0 +1,179 @@
+use crate::cases::{BAD_WORDS, COMMANDS, Case, HELLO, TINY};
+use std::alloc::{AllocError, Global};
+use std::test::Fail;
+use vp_io::{MemFile, MemFiles, MemSink, Outcome, SafeSource, Which};
+use vpo_top::{MIPS, PDP11, Request, WordsFault, read_words, vpo};
+
+#[derive(Drop)]
+struct Seen {
+    outcome: Outcome,
+    output: MemSink,
+    errors: MemSink,
+}
+
+fn owned(alloc: Global, words: &[&str]) -> Result<Vec<String>, AllocError> {
+    let mut all = Vec::new(alloc);
+    for word in words {
+        all.push(word.to_string(alloc)?)?;
+    }
+    Ok(all)
+}
+
+/// A file, which is absent where there are no bytes.
+fn file(alloc: Global, name: &str, bytes: Option<&[u8]>) -> Result<MemFile, AllocError> {
+    Ok(MemFile {
+        name: name.as_bytes().to_vec(alloc)?,
+        bytes: bytes.unwrap_or(b"").to_vec(alloc)?,
+        absent: bytes.is_none(),
+        faults: 0,
+    })
+}
+
+/// A sink that takes so many bytes a call, and fails at the calls of these numbers.
+fn sink(alloc: Global, piece: usize, failing: &[u64]) -> Result<MemSink, AllocError> {
+    Ok(MemSink::new(vec![in alloc; 0; 8192]?, piece, failing.to_vec(alloc)?))
+}
+
+/// What the words do over a description `d` and a source `s`.
+fn run_to(
+    alloc: Global,
+    words: &[&str],
+    description: Option<&[u8]>,
+    source: Option<&[u8]>,
+    mut output: MemSink,
+) -> Result<Seen, AllocError> {
+    let words = owned(alloc, words)?;
+    let mut entries = Vec::new(alloc);
+    entries.push(file(alloc, "d", description)?)?;
+    entries.push(file(alloc, "s", source)?)?;
+    let mut files = MemFiles::new(entries, 4096, Vec::new(alloc));
+    let mut input = SafeSource::new(Vec::new(alloc));
+    let mut errors = sink(alloc, 4, &[])?;
+    let outcome = vpo(
+        alloc,
+        &words,
+        &mut files,
+        &mut input,
+        &mut output,
+        &mut errors,
+    );
+    Ok(Seen {
+        outcome,
+        output,
+        errors,
+    })
+}
+
+fn run(
+    alloc: Global,
+    words: &[&str],
+    description: Option<&[u8]>,
+    source: Option<&[u8]>,
+) -> Result<Seen, AllocError> {
+    run_to(alloc, words, description, source, sink(alloc, 4096, &[])?)
+}
+
+fn is_as_said(alloc: Global, case: &Case) -> Result<bool, AllocError> {
+    let seen = run(alloc, case.words, Some(case.description), Some(case.source))?;
+    Ok(
+        seen.outcome.code() == case.status
+            && seen.output.bytes() == case.output
+            && seen.errors.bytes() == case.told,
+    )
+}
+
+#[test]
+fn commands_do_as_said(rt: HostRuntime) -> Result<(), Fail> {
+    for case in &COMMANDS {
+        assert!(rt; is_as_said(rt.alloc(), case)?);
+    }
+    Ok(())
+}
+
+#[test]
+fn machines_that_come_with_the_program(rt: HostRuntime) -> Result<(), Fail> {
+    for (name, text, verdict) in [
+        ("pdp11", PDP11, "accepted pdp11 word 16 rows 206\n"),
+        ("mips", MIPS, "accepted mips word 32 rows 72\n"),
+    ] {
+        let seen = run(rt.alloc(), &["show", name], None, None)?;
+        assert!(rt; seen.outcome == Outcome::Done(0) && seen.output.bytes() == text);
+        let seen = run(rt.alloc(), &["check", "d"], Some(text), None)?;
+        assert!(rt; seen.outcome == Outcome::Done(0) && seen.output.bytes() == verdict.as_bytes());
+        assert_eq!(rt; seen.errors.bytes(), b"".as_slice());
+    }
+    Ok(())
+}
+
+#[test]
+fn words_are_refused(rt: HostRuntime) -> Result<(), Fail> {
+    for words in BAD_WORDS {
+        let seen = run(rt.alloc(), words, None, None)?;
+        assert_eq!(rt; seen.outcome.code(), 64);
+        assert_eq!(rt; seen.output.bytes(), b"".as_slice());
+        assert_eq!(rt; seen.errors.bytes(), b"vpo: bad words\n".as_slice());
+    }
+    Ok(())
+}
+
+#[test]
+fn words_are_read(rt: HostRuntime) -> Result<(), Fail> {
+    let alloc = rt.alloc();
+    let words = owned(alloc, &["cc", "d", "s"])?;
+    assert!(rt;
+        matches!(
+            read_words(alloc, &words),
+            Ok(Request::Cc {
+                dump: false,
+                plain: false,
+                ..
+            })
+        )
+    );
+    let words = owned(alloc, &["show", "mips"])?;
+    assert!(rt; matches!(read_words(alloc, &words), Ok(Request::Show { which: 1 })));
+    let words = owned(alloc, &["check", "d"])?;
+    assert!(rt; matches!(read_words(alloc, &words), Ok(Request::Check { .. })));
+    let words = owned(alloc, &["show"])?;
+    assert!(rt; matches!(read_words(alloc, &words), Err(WordsFault::BadWords)));
+    Ok(())
+}
+
+#[test]
+fn files_that_are_long_or_missing(rt: HostRuntime) -> Result<(), Fail> {
+    let alloc = rt.alloc();
+    let blanks = vec![in alloc; b' '; 1_048_577]?;
+    let long = blanks.as_slice();
+    let cc = ["cc", "d", "s"];
+    let seen = run(alloc, &cc, Some(long), None)?;
+    assert_eq!(rt; seen.outcome, Outcome::FileTooLong(Which::Description));
+    let seen = run(alloc, &cc, Some(TINY), Some(long))?;
+    assert_eq!(rt;
+        seen.errors.bytes(),
+        b"vpo: file too long: source\n".as_slice()
+    );
+    let seen = run(alloc, &cc, Some(TINY), Some(&long[1..]))?;
+    assert_eq!(rt; seen.outcome.code(), 67);
+    let seen = run(alloc, &["check", "d"], None, None)?;
+    assert_eq!(rt;
+        seen.errors.bytes(),
+        b"vpo: read fault: description\n".as_slice()
+    );
+    let seen = run(alloc, &cc, Some(TINY), None)?;
+    assert_eq!(rt; seen.outcome, Outcome::ReadFault(Which::Text));
+    Ok(())
+}
+
+#[test]
+fn an_output_that_fails(rt: HostRuntime) -> Result<(), Fail> {
+    let alloc = rt.alloc();
+    let output = sink(alloc, 10, &[1])?;
+    let seen = run_to(alloc, &["cc", "d", "s"], Some(TINY), Some(HELLO), output)?;
+    assert_eq!(rt; seen.outcome, Outcome::WriteFault);
+    assert_eq!(rt; seen.output.bytes(), b".text\n\tset".as_slice());
+    let output = sink(alloc, 10, &[1])?;
+    let seen = run_to(alloc, &["check", "d"], Some(PDP11), None, output)?;
+    assert_eq!(rt; seen.output.bytes(), b"accepted p".as_slice());
+    assert_eq!(rt; seen.errors.bytes(), b"vpo: write fault\n".as_slice());
+    Ok(())
+}

@@ -1,0 +1,69 @@
+-- What the program owes for the words that it is given, over what lies outside before and after.
+use Rattle.std.specs.Prelude.{◌≡◌, ◌↔◌, ℕ, zero, suc, Bool, true, false, List, Option, Some, None, ⊤}
+use Rattle.vp_io.specs.Files.{OfFile}
+use Rattle.vp_io.specs.declared.answers.Outcome.{Outcome}
+use Rattle.vp_io.specs.declared.answers.Outcome.TheVariants.{BadWords}
+use Rattle.shipped.specs.declared.Shipped.{Shipped}
+use Rattle.shipped.specs.declared.Shipped.TheVariants.{Pdp11, Mips}
+use Rattle.vpo_top.specs.Outside.{Outside, FilesSeen, SinkSeen}
+use Rattle.vpo_top.specs.Request.{Asked, names_a_file, ReadsNoInput}
+use Rattle.vpo_top.specs.Request.Asked.{Check, Show, Cc}
+use Rattle.vpo_top.specs.Judgement.{OfFiles, Judges, IsOfCompilation, IsRefusal}
+use Rattle.vpo_top.specs.Headline.{IsWritten}
+use Rattle.vpo_top.specs.Commands.{JudgesCheck, IsOfCheck, IsVerdictWritten, IsShown}
+use Rattle.vpo_top.specs.Faults.{HasCause, CountsOnlyAsked}
+use Rattle.vpo_top.specs.Messages.{IsReported}
+
+-- check DESC
+pub record IsCheck {F K : Type 0} (desc : List ℕ) (files : FilesSeen F) (old new : SinkSeen K) (outcome : Outcome) : Type 0 where
+  -- what is written says that the description is accepted, as which machine, and with how many rows
+  pub checked : OfFile files.told desc (λ text. IsVerdictWritten text old.written new.written outcome)
+  -- each outcome comes exactly where the file gives cause for it
+  pub judged : OfFile files.told desc (λ text. JudgesCheck text outcome)
+  -- where the file isn't told, no other outcome comes all the same
+  pub possible : IsOfCheck outcome
+
+-- cc DESC SRC
+pub record IsCompilation {F K : Type 0} (desc src : List ℕ) (files : FilesSeen F) (old new : SinkSeen K) (outcome : Outcome) : Type 0 where
+  -- what is compiled is an assembly text of the described machine that does what the source does
+  pub headline : OfFiles files.told desc src (λ machine_text source_text. IsWritten machine_text source_text old.written new.written outcome)
+  -- each outcome comes exactly where the files give cause for it
+  pub judged : OfFiles files.told desc src (λ machine_text source_text. Judges machine_text source_text outcome)
+  -- where the files aren't told, no other outcome comes all the same
+  pub possible : IsOfCompilation outcome
+
+-- the machine of a number
+abbrev pub machine_of : ℕ → Shipped
+machine_of zero = Pdp11
+machine_of (suc n) = Mips
+
+-- each form of the words has its judge: there is no case for the rest
+abbrev pub IsAnswer : {F S K E : Type 0} → Asked → Outside F S K E → Outside F S K E → Outcome → Type 0
+IsAnswer (Check desc) before now outcome = IsCheck desc before.files before.output now.output outcome
+IsAnswer (Show which) before now outcome = IsShown (machine_of which) before.output.written now.output.written outcome
+IsAnswer (Cc false false desc src) before now outcome = IsCompilation desc src before.files before.output now.output outcome
+-- no words ask for these so far
+IsAnswer (Cc true plain desc src) before now outcome = ⊥
+IsAnswer (Cc false true desc src) before now outcome = ⊥
+
+abbrev pub IsAnswerTo : {F S K E : Type 0} → Option Asked → Outside F S K E → Outside F S K E → Outcome → Type 0
+IsAnswerTo (Some request) before now outcome = IsAnswer request before now outcome
+IsAnswerTo None before now outcome = outcome ≡ BadWords
+
+-- what holds of each call, whatever is asked for
+pub record IsAnswered {F S K E : Type 0} (wanted : Option Asked) (before now : Outside F S K E) (outcome : Outcome) : Type 0 where
+  -- what is written, and when each outcome comes
+  pub answer : IsAnswerTo wanted before now outcome
+  -- words that ask for nothing, and no others, are refused as words
+  pub bad_words : (outcome ≡ BadWords) ↔ (wanted ≡ None)
+  -- a fault is answered only where the object's count rose
+  pub cause : HasCause wanted before now outcome
+  -- no fault is counted of a file that no word names; words without a name fetch none, and no file is changed
+  pub fetched : CountsOnlyAsked wanted before.files.faults now.files.faults
+  pub not_fetched : names_a_file wanted ≡ false → now.files ≡ before.files
+  pub files_kept : now.files.told ≡ before.files.told
+  -- a refusal, and want of memory, leave the output untouched
+  pub untouched : IsRefusal outcome → now.output ≡ before.output
+  pub input_kept : ReadsNoInput wanted → now.input ≡ before.input
+  -- one line tells what the outcome is, where it isn't as asked
+  pub reported : IsReported outcome before.errors now.errors

@@ -5,7 +5,7 @@ use Rattle.std.proofs.lemmas.Slice.Eq.{bytes_eq-Decides}
 use Rattle.shipped.specs.declared.Shipped.{Shipped}
 use Rattle.shipped.specs.declared.Shipped.TheVariants.{Pdp11, Mips}
 use Rattle.shipped.specs.Shipped.{name_of}
-use Rattle.vpo_top.specs.Request.{Asked, is_file_word, is_compilation_form, check_of, show_of, compilation, request_of}
+use Rattle.vpo_top.specs.Request.{Asked, is_file_word, is_compilation_form, check_of, show_of, compilation, compilation_of, request_of, names_a_file}
 use Rattle.vpo_top.specs.Request.Asked.{Check, Show, Cc}
 
 -- the name of no machine that comes with the program
@@ -18,6 +18,15 @@ not_shown name other =
     by_names true d m e = absurd (other Pdp11 (d.0 refl))
     by_names false d true e = absurd (other Mips (e.0 refl))
     by_names false d false e = refl
+
+-- words of these forms name a file
+pub check_names : (desc : List ℕ) → true ≡ is_file_word desc → names_a_file (check_of desc) ≡ true
+check_names desc is = let P : Bool → Type 0 = λ b. names_a_file (cond b (Some (Check desc)) None) ≡ true in subst P is refl
+
+pub compilation_names : (command desc src : List ℕ) → true ≡ is_compilation_form command desc src
+    → names_a_file (compilation_of command desc src) ≡ true
+compilation_names command desc src is =
+    let P : Bool → Type 0 = λ b. names_a_file (cond b (compilation desc src) None) ≡ true in subst P is refl
 
 -- where a compilation is asked for, it has no options
 abbrev pub HasNoOptions : Option Asked → Type 0

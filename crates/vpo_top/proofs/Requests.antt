@@ -1,11 +1,14 @@
 -- What words ask for.
-use Rattle.std.proofs.Common.{◌≡◌, ◌≢◌, ℕ, List, [], ◌∷◌, Option, None, Some, refl, subst, Bool, true, false, ◌&&◌, bytes_eq, Decides, cond, codes}
-use Rattle.std.specs.Prelude.{⊤}
+use Rattle.std.proofs.Common.{◌≡◌, ◌≢◌, ℕ, List, [], ◌∷◌, Option, None, Some, refl, sym, subst, Bool, true, false, ◌&&◌, bytes_eq, Decides, cond, codes}
+use Rattle.std.specs.Prelude.{⊤, String, string_bytes}
+use Rattle.std.specs.declared.alloc.Global.{Global}
 use Rattle.std.proofs.lemmas.Slice.Eq.{bytes_eq-Decides}
 use Rattle.shipped.specs.declared.Shipped.{Shipped}
 use Rattle.shipped.specs.declared.Shipped.TheVariants.{Pdp11, Mips}
 use Rattle.shipped.specs.Shipped.{name_of}
-use Rattle.vpo_top.specs.Request.{Asked, is_file_word, is_compilation_form, check_of, show_of, compilation, compilation_of, request_of, names_a_file}
+use Rattle.vpo_top.specs.declared.request.Request.{Request}
+use Rattle.vpo_top.specs.declared.request.Request.TheVariants.{Check as CheckOf, Cc as CcOf}
+use Rattle.vpo_top.specs.Request.{Asked, asked, is_file_word, is_compilation_form, check_of, show_of, compilation, compilation_of, request_of, names_a_file}
 use Rattle.vpo_top.specs.Request.Asked.{Check, Show, Cc}
 
 -- the name of no machine that comes with the program
@@ -29,7 +32,7 @@ compilation_names command desc src is =
     let P : Bool → Type 0 = λ b. names_a_file (cond b (compilation desc src) None) ≡ true in subst P is refl
 
 -- where a compilation is asked for, it has no options
-abbrev pub HasNoOptions : Option Asked → Type 0
+abbrev HasNoOptions : Option Asked → Type 0
 HasNoOptions (Some (Check desc)) = ⊤
 HasNoOptions (Some (Show which)) = ⊤
 HasNoOptions (Some (Cc dump plain desc src)) = (dump ≡ false) × (plain ≡ false)
@@ -39,7 +42,7 @@ in_cond : (b : Bool) (first other : Option Asked) → HasNoOptions first → Has
 in_cond true first other is is_other = is
 in_cond false first other is is_other = is_other
 
-pub no_options : (words : List (List ℕ)) → HasNoOptions (request_of words)
+no_options : (words : List (List ℕ)) → HasNoOptions (request_of words)
 no_options [] = tt
 no_options (command ∷ []) = tt
 no_options (command ∷ word ∷ []) =
@@ -53,10 +56,27 @@ no_options (command ∷ desc ∷ src ∷ []) =
     in_cond (is_compilation_form command desc src) (compilation desc src) None (refl, refl) tt
 no_options (command ∷ desc ∷ src ∷ more ∷ rest) = tt
 
-pub is_compilation : (words : List (List ℕ)) (dump plain : Bool) (desc src : List ℕ)
+is_compilation : (words : List (List ℕ)) (dump plain : Bool) (desc src : List ℕ)
     → request_of words ≡ Some (Cc dump plain desc src) → request_of words ≡ compilation desc src
 is_compilation words false false desc src is = is
 is_compilation words true plain desc src is =
     let none : HasNoOptions (Some (Cc true plain desc src)) = subst HasNoOptions is (no_options words) in absurd (cc none.0)
 is_compilation words false true desc src is =
     let none : HasNoOptions (Some (Cc false true desc src)) = subst HasNoOptions is (no_options words) in absurd (cc none.1)
+
+-- what a request that was read asks for
+pub check_wanted : (wanted : Option Asked) (request : Request) (desc : String Global) (name : List ℕ)
+    → wanted ≡ Some (asked request) → request ≡ CheckOf desc → name ≡ string_bytes desc → wanted ≡ Some (Check name)
+check_wanted wanted request desc name read is named =
+    let P : Request → Type 0 = λ r. wanted ≡ Some (asked r) in
+    let Q : List ℕ → Type 0 = λ n. wanted ≡ Some (Check n) in
+    subst Q (sym named) (subst P is read)
+
+pub compilation_wanted : (words : List (List ℕ)) (request : Request) (dump plain : Bool) (desc src : String Global) (d s : List ℕ)
+    → request_of words ≡ Some (asked request) → request ≡ CcOf dump plain desc src → d ≡ string_bytes desc → s ≡ string_bytes src
+    → request_of words ≡ compilation d s
+compilation_wanted words request dump plain desc src d s read is d_is s_is =
+    let P : Request → Type 0 = λ r. request_of words ≡ Some (asked r) in
+    let Q : List ℕ → Type 0 = λ n. request_of words ≡ compilation n (string_bytes src) in
+    let R : List ℕ → Type 0 = λ n. request_of words ≡ compilation d n in
+    subst R (sym s_is) (subst Q (sym d_is) (is_compilation words dump plain (string_bytes desc) (string_bytes src) (subst P is read)))

@@ -4,14 +4,14 @@ use Rattle.vpo_top.proofs.compiling.compile_to.Goals as goal
 
 pub returns-in-Ok-write_whole-clause-answer : goal.returns-in-Ok-write_whole-clause-answer
 returns-in-Ok-write_whole-clause-answer g c = record {
-  headline = written_done _ _ _ _ _ _ c.in-Ok.ensures.compiled c.in-Ok-write_whole.ensures.all;
+  headline = written_done _ _ _ _ _ _ c.in-Ok.ensures.compiled (rw c.deref.ensures.value at c.in-Ok-write_whole.ensures.all);
   judged = done_judged _ _ _ c.in-Ok.ensures.accepted;
   possible = refl;
 }
 
 pub returns-clause-answer : goal.returns-clause-answer
 returns-clause-answer g c = record {
-  headline = written_part _ _ _ _ _ _ c.in-Ok.ensures.compiled c.in-Err-write_whole.ensures.part;
+  headline = written_part _ _ _ _ _ _ c.in-Ok.ensures.compiled (rw c.deref.ensures.value at c.in-Err-write_whole.ensures.part);
   judged = write_fault_judged _ _ _ c.in-Ok.ensures.accepted;
   possible = tt;
 }

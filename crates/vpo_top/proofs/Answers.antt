@@ -1,5 +1,5 @@
 -- That words are answered, from what the command owes and what is reported.
-use Rattle.std.proofs.Common.{◌≡◌, ◌⊎◌, inl, inr, false, List, Option, Some, None, refl, subst, sym}
+use Rattle.std.proofs.Common.{◌≡◌, ◌⊎◌, inl, inr, ℕ, false, List, Option, Some, None, refl, subst, sym}
 use Rattle.vp_io.specs.declared.answers.Which.TheVariants.{Description, Text, Assembly, Input}
 use Rattle.vp_io.specs.declared.answers.Outcome.{Outcome}
 use Rattle.vp_io.specs.declared.answers.Outcome.TheVariants.{BadWords, ReadFault, WriteFault}

@@ -88,7 +88,7 @@ abbrev pub prints : ℕ → ℕ → Stat
 prints c byte = evaluate (call c Putchar (number (c + 8) byte ∷ []))
 
 abbrev pub deeper : Typed
-deeper = with_function (prints 13 120 ∷ return (call 33 (Defined 0) []) ∷ []) (return (call 61 (Defined 0) []) ∷ [])
+deeper = with_function (prints 13 120 ∷ return (call 33 (Defined 0) []) ∷ []) (return (call 60 (Defined 0) []) ∷ [])
 
 pub record CallActs : Type 0 where
   -- int f(void){}int main(void){return f();}: the value used of a function that came to its `}`
@@ -109,7 +109,7 @@ pub record Orders : Type 0 where
   pub conjunction : run (returns (two 23 (number 23 0) LogicalAnd (two 26 (number 26 1) Divide (number 28 0)))) 1 ≡ Ended [] 0
   -- 1||1/0
   pub disjunction : run (returns (two 23 (number 23 1) LogicalOr (two 26 (number 26 1) Divide (number 28 0)))) 1 ≡ Ended [] 1
-  -- int f(int a,int b){return a;}int main(void){return f(putchar('a'),putchar('b'));}
+  -- int f(int a,int b){return 7;}int main(void){return f(putchar('a'),putchar('b'));}
   pub arguments : run (program (function (codes "f") (int ∷ int ∷ []) [] (return (number 27 7) ∷ [])
       ∷ main [] (return (call 52 (Defined 0) (call 54 Putchar (number 62 97 ∷ []) ∷ call 67 Putchar (number 75 98 ∷ []) ∷ [])) ∷ []) ∷ [])) 2 ≡ Ended (97 ∷ 98 ∷ []) 7
   -- x=1;return x+=x=5;: the left side is read first

@@ -115,20 +115,81 @@ impl Page {
         Ok(())
     }
 
-    #[cycle(expressions)]
     fn expr(&mut self, e: &Expr) -> Printed {
         match e {
-            Expr::Comma(_, a, b) => self.pair(a.get(), b" , ", b.get()),
-            Expr::Assign(_, a, o, b) => self.pair(a.get(), assign(*o), b.get()),
-            Expr::Binary(_, a, o, b) => self.pair(a.get(), binary(*o), b.get()),
-            Expr::Conditional(_, a, b, c) => self.choice(a.get(), b.get(), c.get()),
-            Expr::Cast(_, w, e) => self.cast(words(*w), e.get()),
-            Expr::Unary(_, o, e) => self.between(b"(", unary(*o), e.get(), b")"),
-            Expr::Before(_, o, e) => self.between(b"(", step(*o), e.get(), b")"),
-            Expr::After(_, e, o) => self.after(e.get(), step(*o)),
+            Expr::Comma(_, a, b) => {
+                self.put(b"(")?;
+                self.expr(a.get())?;
+                self.put(b" , ")?;
+                self.expr(b.get())?;
+                self.put(b")")
+            }
+            Expr::Assign(_, a, o, b) => {
+                self.put(b"(")?;
+                self.expr(a.get())?;
+                self.put(assign(*o))?;
+                self.expr(b.get())?;
+                self.put(b")")
+            }
+            Expr::Binary(_, a, o, b) => {
+                self.put(b"(")?;
+                self.expr(a.get())?;
+                self.put(binary(*o))?;
+                self.expr(b.get())?;
+                self.put(b")")
+            }
+            Expr::Conditional(_, a, b, c) => {
+                self.put(b"(")?;
+                self.expr(a.get())?;
+                self.put(b" ? ")?;
+                self.expr(b.get())?;
+                self.put(b" : ")?;
+                self.expr(c.get())?;
+                self.put(b")")
+            }
+            Expr::Cast(_, w, e) => {
+                self.put(b"((")?;
+                self.put(words(*w))?;
+                self.put(b")")?;
+                self.expr(e.get())?;
+                self.put(b")")
+            }
+            Expr::Unary(_, o, e) => {
+                self.put(b"(")?;
+                self.put(unary(*o))?;
+                self.expr(e.get())?;
+                self.put(b")")
+            }
+            Expr::Before(_, o, e) => {
+                self.put(b"(")?;
+                self.put(step(*o))?;
+                self.expr(e.get())?;
+                self.put(b")")
+            }
+            Expr::After(_, e, o) => {
+                self.put(b"(")?;
+                self.expr(e.get())?;
+                self.put(step(*o))?;
+                self.put(b")")
+            }
             Expr::Name(_, n) => self.put(n.as_slice()),
-            Expr::Element(_, n, e) => self.between(n.as_slice(), b"[", e.get(), b"]"),
-            Expr::Call(_, n, es) => self.call(n.as_slice(), es.as_slice()),
+            Expr::Element(_, n, e) => {
+                self.put(n.as_slice())?;
+                self.put(b"[")?;
+                self.expr(e.get())?;
+                self.put(b"]")
+            }
+            Expr::Call(_, n, es) => {
+                self.put(n.as_slice())?;
+                self.put(b"(")?;
+                let mut first = true;
+                for e in es.as_slice() {
+                    self.put(if first { b"" } else { b", " })?;
+                    first = false;
+                    self.expr(e)?;
+                }
+                self.put(b")")
+            }
             Expr::Number {
                 value,
                 decimal,
@@ -136,59 +197,14 @@ impl Page {
                 ..
             } => self.constant(*value, *decimal, *unsigned),
             Expr::Character(_, v) => self.character(*v),
-            Expr::Paren(_, e) => self.between(b"", b"<", e.get(), b">"),
+            Expr::Paren(_, e) => {
+                self.put(b"<")?;
+                self.expr(e.get())?;
+                self.put(b">")
+            }
         }
     }
 
-    #[cycle(expressions)]
-    fn pair(&mut self, left: &Expr, operator: &[u8], right: &Expr) -> Printed {
-        self.put(b"(")?;
-        self.expr(left)?;
-        self.put(operator)?;
-        self.expr(right)?;
-        self.put(b")")
-    }
-
-    #[cycle(expressions)]
-    fn choice(&mut self, test: &Expr, then: &Expr, other: &Expr) -> Printed {
-        self.put(b"(")?;
-        self.expr(test)?;
-        self.put(b" ? ")?;
-        self.expr(then)?;
-        self.put(b" : ")?;
-        self.expr(other)?;
-        self.put(b")")
-    }
-
-    #[cycle(expressions)]
-    fn cast(&mut self, words: &[u8], e: &Expr) -> Printed {
-        self.put(b"((")?;
-        self.between(words, b")", e, b")")
-    }
-
-    #[cycle(expressions)]
-    fn after(&mut self, e: &Expr, operator: &[u8]) -> Printed {
-        self.between(b"(", b"", e, operator)?;
-        self.put(b")")
-    }
-
-    #[cycle(expressions)]
-    fn between(&mut self, first: &[u8], second: &[u8], e: &Expr, last: &[u8]) -> Printed {
-        self.put(first)?;
-        self.put(second)?;
-        self.expr(e)?;
-        self.put(last)
-    }
-
-    #[cycle(expressions)]
-    fn call(&mut self, name: &[u8], arguments: &[Expr]) -> Printed {
-        self.put(name)?;
-        self.put(b"(")?;
-        self.list(arguments)?;
-        self.put(b")")
-    }
-
-    #[cycle(expressions)]
     fn list(&mut self, es: &[Expr]) -> Printed {
         let mut first = true;
         for e in es {
@@ -312,92 +328,93 @@ impl Page {
 
     fn controlled(&mut self, word: &[u8], e: &Expr) -> Printed {
         self.put(word)?;
-        self.between(b"", b"(", e, b")")
-    }
-
-    fn returned(&mut self, e: &Option<Expr>) -> Printed {
-        self.put(b"return ")?;
-        self.optional(e)?;
-        self.put(b";")
-    }
-
-    fn evaluated(&mut self, e: &Option<Expr>) -> Printed {
-        self.optional(e)?;
-        self.put(b";")
-    }
-
-    fn for_header(&mut self, start: &Start, test: &Option<Expr>, step: &Option<Expr>) -> Printed {
-        self.put(b"for(")?;
-        self.start(start)?;
-        self.optional(test)?;
-        self.put(b";")?;
-        self.optional(step)?;
+        self.put(b"(")?;
+        self.expr(e)?;
         self.put(b")")
     }
 
-    #[cycle(statements)]
     fn statement(&mut self, statement: &Statement) -> Printed {
         match statement {
-            Statement::Block(_, statements) => self.block(statements.as_slice()),
+            Statement::Block(_, statements) => {
+                self.put(b"{")?;
+                for inner in statements.as_slice() {
+                    self.statement(inner)?;
+                }
+                self.put(b"}")
+            }
             Statement::Declared(declaration) => self.declaration(declaration),
-            Statement::Evaluate(_, e) => self.evaluated(e),
+            Statement::Evaluate(_, e) => {
+                self.optional(e)?;
+                self.put(b";")
+            }
             Statement::If(_, e, then, other) => {
                 self.controlled(b"if", e)?;
-                self.inner(then.get())?;
+                self.put(b"[")?;
+                self.statement(then.get())?;
+                self.put(b"]")?;
                 match other {
                     None => Ok(()),
                     Some(other) => {
-                        self.put(b"else")?;
-                        self.inner(other.get())
+                        self.put(b"else[")?;
+                        self.statement(other.get())?;
+                        self.put(b"]")
                     }
                 }
             }
             Statement::While(_, e, body) => {
                 self.controlled(b"while", e)?;
-                self.inner(body.get())
+                self.put(b"[")?;
+                self.statement(body.get())?;
+                self.put(b"]")
             }
             Statement::DoWhile(_, body, e) => {
-                self.put(b"do")?;
-                self.inner(body.get())?;
+                self.put(b"do[")?;
+                self.statement(body.get())?;
+                self.put(b"]")?;
                 self.controlled(b"while", e)?;
                 self.put(b";")
             }
             Statement::For(_, start, test, step, body) => {
-                self.for_header(start, test, step)?;
-                self.inner(body.get())
+                self.put(b"for(")?;
+                self.start(start)?;
+                self.optional(test)?;
+                self.put(b";")?;
+                self.optional(step)?;
+                self.put(b")")?;
+                self.put(b"[")?;
+                self.statement(body.get())?;
+                self.put(b"]")
             }
             Statement::Switch(_, e, statements) => {
                 self.controlled(b"switch", e)?;
-                self.block(statements.as_slice())
+                self.put(b"{")?;
+                for inner in statements.as_slice() {
+                    self.statement(inner)?;
+                }
+                self.put(b"}")
             }
             Statement::Case(_, e, body) => {
-                self.between(b"case", b" ", e, b":")?;
-                self.inner(body.get())
+                self.put(b"case ")?;
+                self.expr(e)?;
+                self.put(b":")?;
+                self.put(b"[")?;
+                self.statement(body.get())?;
+                self.put(b"]")
             }
             Statement::Default(_, body) => {
                 self.put(b"default:")?;
-                self.inner(body.get())
+                self.put(b"[")?;
+                self.statement(body.get())?;
+                self.put(b"]")
             }
             Statement::Break(_) => self.put(b"break;"),
             Statement::Continue(_) => self.put(b"continue;"),
-            Statement::Return(_, e) => self.returned(e),
+            Statement::Return(_, e) => {
+                self.put(b"return ")?;
+                self.optional(e)?;
+                self.put(b";")
+            }
         }
-    }
-
-    #[cycle(statements)]
-    fn inner(&mut self, statement: &Statement) -> Printed {
-        self.put(b"[")?;
-        self.statement(statement)?;
-        self.put(b"]")
-    }
-
-    #[cycle(statements)]
-    fn block(&mut self, statements: &[Statement]) -> Printed {
-        self.put(b"{")?;
-        for statement in statements {
-            self.statement(statement)?;
-        }
-        self.put(b"}")
     }
 
     fn external(&mut self, external: &External) -> Printed {
@@ -412,7 +429,11 @@ impl Page {
                 ..
             } => {
                 self.function(gives, name.bytes.as_slice(), parameters)?;
-                self.block(body.as_slice())
+                self.put(b"{")?;
+                for statement in body.as_slice() {
+                    self.statement(statement)?;
+                }
+                self.put(b"}")
             }
         }
     }

@@ -1,3 +1,5 @@
+ghost use Rattle.std.specs.Prelude.{◌<◌};
+
 use crate::cases::{BAD_WORDS, COMMANDS, Case, HELLO, TINY};
 use std::alloc::{AllocError, Global};
 use std::test::Fail;
@@ -30,7 +32,9 @@ fn file(alloc: Global, name: &str, bytes: Option<&[u8]>) -> Result<MemFile, Allo
 }
 
 /// A sink that takes so many bytes a call, and fails at the calls of these numbers.
-fn sink(alloc: Global, piece: usize, failing: &[u64]) -> Result<MemSink, AllocError> {
+fn sink(alloc: Global, piece: usize, failing: &[u64]) -> Result<MemSink, AllocError>
+    requires { 0 < piece }
+{
     Ok(MemSink::new(vec![in alloc; 0; 8192]?, piece, failing.to_vec(alloc)?))
 }
 

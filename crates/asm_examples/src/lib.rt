@@ -4,16 +4,8 @@
 //! - `telling`: the row that is recognised, what stands in its holes, and its line of assembly.
 #![tactic(auto)]
 
-#[cfg(test)]
-mod cases;
-#[cfg(test)]
-mod line_cases;
-#[cfg(test)]
-mod line_tests;
 mod naming;
 mod telling;
-#[cfg(test)]
-mod tests;
 
 pub use naming::{are_named, is_named};
 pub use telling::{Told, Trouble, told_by, told_in, told_of};

@@ -1,7 +1,6 @@
 pub mod Length
 pub mod Seen
 pub mod Refusals
-pub mod Appending
 pub mod Gives
 pub mod Unary
 pub mod Collected

@@ -1,5 +1,5 @@
 -- What the program has in hand, without references.
-use Rattle.std.specs.Prelude.{ℕ, List, [], map}
+use Rattle.std.specs.Prelude.{ℕ, List, map}
 use Rattle.rtl_tree.specs.declared.c_names.Names.{Names}
 use Rattle.rtl_spelling.specs.Holes.{Open}
 use Rattle.rtl_spelling.specs.Tokens.{Token, Word, Number, Mark}
@@ -7,6 +7,7 @@ use Rattle.rtl_spelling.specs.Spelling.{Context, Said}
 use Rattle.std.specs.Option.{option_map}
 use Rattle.rtl_tree.specs.Trees.{tree_of}
 use Rattle.rtl_tree.specs.Moves.{goal_of}
+pub use Rattle.rtl_print.specs.Seen.{printing_context}
 use Rattle.rtl_text.specs.declared.said.Assignment.{Assignment}
 use Rattle.rtl_text.specs.declared.token.Token.{Token as Borrowed}
 use Rattle.rtl_text.specs.declared.token.Token.TheVariants as borrowed
@@ -25,10 +26,6 @@ context_of c = record { width = c.bits; objects = c.names.now.objects; functions
 
 abbrev pub reading_context : ℕ → Names → List Open → Context
 reading_context w n holes = record { width = w; objects = n.objects; functions = n.functions; holes = holes }
-
--- a printer fills no holes
-abbrev pub printing_context : ℕ → Names → Context
-printing_context w n = reading_context w n []
 
 abbrev pub said_by : Assignment → Said
 said_by a = record { to = option_map goal_of a.to; value = tree_of a.value }

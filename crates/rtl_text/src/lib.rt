@@ -15,7 +15,6 @@
 //! and that they answer just what the text spells where it spells assignments.
 #![tactic(auto)]
 
-mod bytes;
 mod calls;
 mod context;
 mod cursor;
@@ -25,7 +24,6 @@ mod lexing;
 mod moves;
 mod number;
 mod places;
-mod printing;
 mod said;
 mod senses;
 mod token;
@@ -38,7 +36,7 @@ pub use context::Context;
 pub use fault::TextFault;
 pub use gathering::item;
 pub use lexing::lex;
-pub use printing::print_transfer;
+pub use rtl_print::print_transfer;
 pub use rtl_spelling::{OpenHole, Sign};
 pub use said::Assignment;
 pub use token::Token;

@@ -4,24 +4,8 @@ ghost use Rattle.std.specs.Prelude.{◌≡◌, ◌<◌, ◌≤◌, ◌^◌, min,
 ghost use Rattle.std.specs.List.{AllPass, list_all};
 ghost use Rattle.std.specs.Char.{is_ascii_digit};
 ghost use Rattle.std.specs.Str.Parse.{digits_value};
-ghost use Rattle.rtl_word.specs.Words.{IsWordSize, word_signed};
+ghost use Rattle.rtl_word.specs.Words.{IsWordSize};
 ghost use Rattle.rtl_spelling.specs.Senses.{is_plain, number_below, word_spelled};
-
-/// The signed reading of a word.
-pub(crate) fn signed(bits: u32, word: u32) -> i64
-    requires size { IsWordSize bits }
-    requires word { word < 2 ^ bits }
-    ensures { result ≡ word_signed bits word }
-{
-    let half: u32 = if bits == 16 { 0x8000 } else { 0x8000_0000 };
-    if word < half {
-        i64::from(word)
-    } else if bits == 16 {
-        i64::from(word) - 0x1_0000
-    } else {
-        i64::from(word) - 0x1_0000_0000
-    }
-}
 
 /// What every greater number counts as.
 const LIMIT: u64 = 1 << 33;

@@ -6,12 +6,12 @@ ghost use Rattle.rtl_spelling.specs.Tokens.{spelled, spelling};
 ghost use Rattle.rtl_text.specs.Answering.{settles};
 ghost use Rattle.rtl_text.specs.Seen.{context_of, token_of, tokens_of};
 
-use crate::bytes::sign_bytes;
 use crate::context::Context;
 use crate::cursor::{head_of, is_sign, rest_of};
 use crate::token::Token;
 use crate::trees::leaf_at;
 use crate::trouble::Trouble;
+use rtl_print::sign_bytes;
 use rtl_spelling::Sign;
 
 fn last_tokens<'t, 'a>(tokens: &'t [Token<'a>], count: usize) -> &'t [Token<'a>]

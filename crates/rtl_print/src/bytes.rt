@@ -3,14 +3,14 @@
 ghost use Rattle.std.specs.Prelude.{◌≡◌};
 ghost use Rattle.rtl_spelling.specs.Spelling;
 ghost use Rattle.rtl_spelling.specs.Tokens;
-ghost use Rattle.rtl_text.specs.Seen.{token_of};
+ghost use Rattle.rtl_spelling.specs.Tokens.{spelling};
 
-use crate::token::Token;
 use rtl_spelling::Sign;
 use rtl_tree::{BinOp, UnOp, Width};
 use rtl_word::Rel;
 
-pub(crate) fn sign_bytes(sign: Sign) -> &'static [u8]
+/// The bytes of a mark; none for the end of a text.
+pub fn sign_bytes(sign: Sign) -> &'static [u8]
     ensures { result.now ≡ Tokens.sign_bytes sign }
 {
     match sign {
@@ -72,25 +72,26 @@ pub(crate) fn memory_word(width: Width) -> &'static [u8]
     }
 }
 
-pub(crate) fn operator_token(operator: BinOp) -> Token<'static>
-    ensures { token_of result ≡ Spelling.operator_token operator }
+/// The bytes of an operator that stands between two trees.
+pub(crate) fn operator_bytes(operator: BinOp) -> &'static [u8]
+    ensures { result.now ≡ spelling (Spelling.operator_token operator) }
 {
     match operator {
-        BinOp::Add => Token::Mark(Sign::Plus),
-        BinOp::Sub => Token::Mark(Sign::Minus),
-        BinOp::Mul => Token::Mark(Sign::Star),
-        BinOp::Div => Token::Word(b"div"),
-        BinOp::Divu => Token::Word(b"divu"),
-        BinOp::Rem => Token::Word(b"rem"),
-        BinOp::Remu => Token::Word(b"remu"),
-        BinOp::And => Token::Mark(Sign::Ampersand),
-        BinOp::Or => Token::Mark(Sign::Bar),
-        BinOp::Xor => Token::Mark(Sign::Caret),
-        BinOp::Shl => Token::Word(b"shl"),
-        BinOp::Shr => Token::Word(b"shr"),
-        BinOp::Shru => Token::Word(b"shru"),
-        BinOp::Cmp(relation) => Token::Word(relation_word(relation)),
-        BinOp::Pair => Token::Mark(Sign::Question),
-        BinOp::When => Token::Mark(Sign::Arrow),
+        BinOp::Add => b"+",
+        BinOp::Sub => b"-",
+        BinOp::Mul => b"*",
+        BinOp::Div => b"div",
+        BinOp::Divu => b"divu",
+        BinOp::Rem => b"rem",
+        BinOp::Remu => b"remu",
+        BinOp::And => b"&",
+        BinOp::Or => b"|",
+        BinOp::Xor => b"^",
+        BinOp::Shl => b"shl",
+        BinOp::Shr => b"shr",
+        BinOp::Shru => b"shru",
+        BinOp::Cmp(relation) => relation_word(relation),
+        BinOp::Pair => b"?",
+        BinOp::When => b"->",
     }
 }

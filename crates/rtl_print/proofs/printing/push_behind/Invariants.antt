@@ -1,8 +1,8 @@
 use Rattle.std.proofs.Common.{◌≡◌, ◌++◌, drop}
 use Rattle.rtl_spelling.specs.Tokens.{spelled}
 use Rattle.rtl_spelling.specs.Printing.{tokens_behind}
-use Rattle.rtl_text.specs.Seen.{context_of}
-use Rattle.rtl_text.proofs.printing.push_behind.Given as goal
+use Rattle.rtl_print.specs.Seen.{context_of}
+use Rattle.rtl_print.proofs.printing.push_behind.Given as goal
 
 -- what was appended and what is left are the whole
 abbrev pub invariant-loop-m : goal.invariant-loop-m

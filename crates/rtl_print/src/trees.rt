@@ -114,12 +114,7 @@ pub(crate) fn push_memory(
 
 // The test of a flag's pair.
 #[cycle(trees)]
-fn push_test(
-    out: &mut Vec<u8>,
-    c: &Context<'_>,
-    relation: Rel,
-    a: &Expr,
-) -> Result<(), AllocError>
+fn push_test(out: &mut Vec<u8>, c: &Context<'_>, relation: Rel, a: &Expr) -> Result<(), AllocError>
     requires size { IsWordSize c.now.bits }
     requires printable { IsPrintableTree (context_of c.now) (tree_of a.now) }
     ensures { OnOk result (Appends out.old.items out.new.items (tree_tokens (context_of c.now) (Unary (UnOp.Test relation) (tree_of a.now)))) }

@@ -19,7 +19,7 @@ use crate::senses::sense_of;
 use crate::token::Token;
 use crate::trouble::Trouble;
 use rtl_spelling::{Bank, OpenHole, Sense, Sign};
-use rtl_tree::{BinOp, Expr, UnOp, copy};
+use rtl_tree::{BinOp, Expr, UnOp, Width, copy};
 use rtl_word::Rel;
 use std::alloc::Global;
 
@@ -104,6 +104,21 @@ pub(crate) fn address<'t, 'a>(
     Ok((address, tokens))
 }
 
+// A tree in a box, which stands in another tree.
+#[cycle(reading)]
+fn boxed<'t, 'a>(
+    alloc: Global,
+    c: &Context<'_>,
+    room: u32,
+    tokens: &'t [Token<'a>],
+) -> Result<(Box<Expr>, &'t [Token<'a>]), Trouble>
+    requires { IsWordSize c.now.bits }
+    ensures { Gives (λ x. (tree_of x.0.value, tokens_of x.1.now)) result (Reading.tree (context_of c.now) room (tokens_of tokens.now)) }
+{
+    let (e, tokens) = tree(alloc, c, room, tokens)?;
+    Ok((Box::new(alloc, e)?, tokens))
+}
+
 // A space, the tree to the right of an operator, and the bracket.
 #[cycle(reading)]
 fn right<'t, 'a>(
@@ -111,18 +126,16 @@ fn right<'t, 'a>(
     c: &Context<'_>,
     room: u32,
     operator: BinOp,
-    left: Expr,
+    left: Box<Expr>,
     tokens: &'t [Token<'a>],
 ) -> Result<(Expr, &'t [Token<'a>]), Trouble>
     requires { IsWordSize c.now.bits }
     ensures { Gives (λ x. (tree_of x.0, tokens_of x.1.now)) result
-        (Reading.right (Reading.tree (context_of c.now) room) operator (tree_of left) (tokens_of tokens.now)) }
+        (Reading.right (Reading.tree (context_of c.now) room) operator (tree_of left.value) (tokens_of tokens.now)) }
 {
     let tokens = expect(Sign::Space, tokens)?;
-    let (right, tokens) = tree(alloc, c, room, tokens)?;
+    let (right, tokens) = boxed(alloc, c, room, tokens)?;
     let tokens = expect(Sign::RightParen, tokens)?;
-    let left = Box::new(alloc, left)?;
-    let right = Box::new(alloc, right)?;
     Ok((Expr::Bin(operator, left, right), tokens))
 }
 
@@ -132,12 +145,12 @@ fn operator<'t, 'a>(
     alloc: Global,
     c: &Context<'_>,
     room: u32,
-    left: Expr,
+    left: Box<Expr>,
     tokens: &'t [Token<'a>],
 ) -> Result<(Expr, &'t [Token<'a>]), Trouble>
     requires { IsWordSize c.now.bits }
     ensures { Gives (λ x. (tree_of x.0, tokens_of x.1.now)) result
-        (Reading.operator (context_of c.now) (Reading.tree (context_of c.now) room) (tree_of left) (tokens_of tokens.now)) }
+        (Reading.operator (context_of c.now) (Reading.tree (context_of c.now) room) (tree_of left.value) (tokens_of tokens.now)) }
 {
     let tokens = expect(Sign::Space, tokens)?;
     match sense_of(c, head_of(tokens)) {
@@ -153,17 +166,16 @@ fn after_relation<'t, 'a>(
     c: &Context<'_>,
     room: u32,
     relation: Rel,
-    flag: Expr,
+    flag: Box<Expr>,
     tokens: &'t [Token<'a>],
 ) -> Result<(Expr, &'t [Token<'a>]), Trouble>
     requires { IsWordSize c.now.bits }
     ensures { Gives (λ x. (tree_of x.0, tokens_of x.1.now)) result
-        (Reading.after_relation (Reading.tree (context_of c.now) room) relation (tree_of flag) (tokens_of tokens.now)) }
+        (Reading.after_relation (Reading.tree (context_of c.now) room) relation (tree_of flag.value) (tokens_of tokens.now)) }
 {
     if !is_sign(Sign::RightParen, head_of(tokens)) {
         return right(alloc, c, room, BinOp::Cmp(relation), flag, tokens);
     }
-    let flag = Box::new(alloc, flag)?;
     Ok((Expr::Un(UnOp::Test(relation), flag), rest_of(tokens)))
 }
 
@@ -174,12 +186,12 @@ fn after_operator<'t, 'a>(
     c: &Context<'_>,
     room: u32,
     operator: BinOp,
-    flag: Expr,
+    flag: Box<Expr>,
     tokens: &'t [Token<'a>],
 ) -> Result<(Expr, &'t [Token<'a>]), Trouble>
     requires { IsWordSize c.now.bits }
     ensures { Gives (λ x. (tree_of x.0, tokens_of x.1.now)) result
-        (Reading.tested_on (Reading.tree (context_of c.now) room) (tree_of flag) (tokens_of tokens.now) (Sense.Binary operator)) }
+        (Reading.tested_on (Reading.tree (context_of c.now) room) (tree_of flag.value) (tokens_of tokens.now) (Sense.Binary operator)) }
 {
     let tokens = rest_of(tokens);
     match operator {
@@ -194,12 +206,12 @@ fn tested<'t, 'a>(
     alloc: Global,
     c: &Context<'_>,
     room: u32,
-    flag: Expr,
+    flag: Box<Expr>,
     tokens: &'t [Token<'a>],
 ) -> Result<(Expr, &'t [Token<'a>]), Trouble>
     requires { IsWordSize c.now.bits }
     ensures { Gives (λ x. (tree_of x.0, tokens_of x.1.now)) result
-        (Reading.tested (context_of c.now) (Reading.tree (context_of c.now) room) (tree_of flag) (tokens_of tokens.now)) }
+        (Reading.tested (context_of c.now) (Reading.tree (context_of c.now) room) (tree_of flag.value) (tokens_of tokens.now)) }
 {
     let tokens = expect(Sign::Space, tokens)?;
     match sense_of(c, head_of(tokens)) {
@@ -222,9 +234,8 @@ fn unary<'t, 'a>(
         (unary (Reading.tree (context_of c.now) room) operator (tokens_of tokens.now)) }
 {
     let tokens = expect(Sign::Space, tokens)?;
-    let (a, tokens) = tree(alloc, c, room, tokens)?;
+    let (a, tokens) = boxed(alloc, c, room, tokens)?;
     let tokens = expect(Sign::RightParen, tokens)?;
-    let a = Box::new(alloc, a)?;
     Ok((Expr::Un(operator, a), tokens))
 }
 
@@ -243,11 +254,11 @@ fn inside<'t, 'a>(
     match sense_of(c, head_of(tokens)) {
         Sense::Unary(operator) => unary(alloc, c, room, operator, rest_of(tokens)),
         Sense::Bank(Bank::Flag) => {
-            let (flag, tokens) = tree(alloc, c, room, tokens)?;
+            let (flag, tokens) = boxed(alloc, c, room, tokens)?;
             tested(alloc, c, room, flag, tokens)
         }
         _ => {
-            let (left, tokens) = tree(alloc, c, room, tokens)?;
+            let (left, tokens) = boxed(alloc, c, room, tokens)?;
             operator(alloc, c, room, left, tokens)
         }
     }
@@ -273,6 +284,22 @@ fn tree_at_sign<'t, 'a>(
 }
 
 #[cycle(reading)]
+fn memory<'t, 'a>(
+    alloc: Global,
+    c: &Context<'_>,
+    room: u32,
+    width: Width,
+    tokens: &'t [Token<'a>],
+) -> Result<(Expr, &'t [Token<'a>]), Trouble>
+    requires { IsWordSize c.now.bits }
+    ensures { Gives (λ x. (tree_of x.0, tokens_of x.1.now)) result
+        (Reading.tree_on (context_of c.now) (Reading.tree (context_of c.now) room) (tokens_of tokens.now) (Sense.Memory width)) }
+{
+    let (address, tokens) = address(alloc, c, room, rest_of(tokens))?;
+    Ok((Expr::Mem(width, Box::new(alloc, address)?), tokens))
+}
+
+#[cycle(reading)]
 fn tree_on<'t, 'a>(
     alloc: Global,
     c: &Context<'_>,
@@ -293,11 +320,7 @@ fn tree_on<'t, 'a>(
             let (cell, tokens) = index(bank, rest_of(tokens))?;
             Ok((Expr::Cell(cell), tokens))
         }
-        Sense::Memory(width) => {
-            let (address, tokens) = address(alloc, c, room, rest_of(tokens))?;
-            let address = Box::new(alloc, address)?;
-            Ok((Expr::Mem(width, address), tokens))
-        }
+        Sense::Memory(width) => memory(alloc, c, room, width, tokens),
         Sense::Sign(sign) => tree_at_sign(alloc, c, room, tokens, sign),
         _ => Err(wrong(tokens)),
     }

@@ -45,9 +45,9 @@ const KEYWORDS: [(&[u8], Sense); 30] = [
 fn sense_in(table: &[(&[u8], Sense)], word: &[u8]) -> Sense
     ensures { result ≡ sense_among (map (λ entry. (entry.0.now, entry.1)) table.now) word.now }
 {
-    for (keyword, sense) in table {
-        if *keyword == word {
-            return *sense;
+    for entry in table {
+        if entry.0 == word {
+            return entry.1;
         }
     }
     Sense::Strange

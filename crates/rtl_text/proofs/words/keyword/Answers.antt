@@ -1,7 +1,5 @@
 -- The table of the code computes to that of the definition.
-use Rattle.rtl_spelling.specs.Senses.{keywords}
 use Rattle.rtl_text.proofs.words.keyword.Goals as goal
 
 pub returns : goal.returns
-unfolding keywords
 returns c = c.sense_in.ensures

@@ -5,10 +5,10 @@ use Rattle.rtl_spelling.specs.declared.signs.Sign.TheVariants as sign
 use Rattle.rtl_spelling.specs.Tokens.{Token}
 use Rattle.rtl_spelling.specs.Spelling.{Context, Said}
 use Rattle.rtl_spelling.specs.Reading.{Read, ◌>>=◌, gives, head_of, rest_of, is_sign, expect, move, moves}
-use Rattle.rtl_text.specs.declared.trouble.Trouble.{Trouble as Stop}
-use Rattle.rtl_text.specs.declared.trouble.Trouble.TheVariants as stop
+use Rattle.rtl_token.specs.declared.trouble.Trouble.{Trouble as Stop}
+use Rattle.rtl_token.specs.declared.trouble.Trouble.TheVariants as stop
 use Rattle.rtl_text.specs.Collected.{item}
-use Rattle.rtl_text.specs.Gives.{Fails}
+use Rattle.rtl_token.specs.Gives.{Fails}
 use Rattle.md_open.specs.Said.{adds}
 
 -- the rest of the assignments behind one

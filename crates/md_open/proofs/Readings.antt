@@ -24,7 +24,7 @@ use Rattle.rtl_spelling.proofs.Complete.{reads_back}
 use Rattle.rtl_spelling.proofs.Lexed.{at_most_one_lexed}
 use Rattle.rtl_spelling.proofs.Answered.{reading_answers, spelled_is_read}
 use Rattle.rtl_text.specs.Seen.{reading_context}
-use Rattle.rtl_text.proofs.Longest.{some_bytes}
+use Rattle.rtl_token.proofs.Longest.{some_bytes}
 use Rattle.md_text.proofs.FormTexts.{spelled_once}
 use Rattle.md_text.specs.Forms.{OpenTree, OpenTransfer, SpellsTree, SpellsMoves, context, open_from, hole_names, has_no_label, goal_has_no_label}
 use Rattle.md_open.specs.Said.{adds}

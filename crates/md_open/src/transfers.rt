@@ -5,7 +5,7 @@ ghost use Rattle.rtl_word.specs.Words.{IsWordSize};
 ghost use Rattle.rtl_spelling.specs.Law.{IsEnded};
 ghost use Rattle.rtl_spelling.specs.Reading;
 ghost use Rattle.rtl_spelling.specs.Spelling.{Said as Spelled, IsSpelled};
-ghost use Rattle.rtl_text.specs.Gives.{Gives};
+ghost use Rattle.rtl_token.specs.Gives.{Gives};
 ghost use Rattle.rtl_text.specs.Seen.{context_of, tokens_of};
 ghost use Rattle.md_text.specs.Forms.{OpenTransfer as Meant, SpellsMoves, context};
 ghost use Rattle.md_open.specs.Said.{adds};

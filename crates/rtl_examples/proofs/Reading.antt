@@ -11,8 +11,8 @@ use Rattle.rtl_spelling.specs.Spelling.{Context, Said}
 use Rattle.rtl_spelling.specs.Printing.{IsPrintable, text_of}
 use Rattle.rtl_spelling.specs.Contract.{said_of, TextSays}
 use Rattle.rtl_text.specs.Answering.{Tells}
-use Rattle.rtl_text.specs.declared.fault.TextFault.{TextFault}
-use Rattle.rtl_text.specs.declared.fault.TextFault.TheVariants as fault
+use Rattle.rtl_token.specs.declared.fault.TextFault.{TextFault}
+use Rattle.rtl_token.specs.declared.fault.TextFault.TheVariants as fault
 use Rattle.rtl_examples.specs.NormalText.{Prints}
 use Rattle.rtl_examples.proofs.Printable.{printable_fits, printable_kept, spelled_printable}
 

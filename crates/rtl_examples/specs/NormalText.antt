@@ -6,8 +6,8 @@ use Rattle.rtl_norm.specs.Transfers.{norm_moves}
 use Rattle.rtl_spelling.specs.Spelling.{Context}
 use Rattle.rtl_spelling.specs.Printing.{text_of}
 use Rattle.rtl_spelling.specs.Contract.{TextSays}
-use Rattle.rtl_text.specs.declared.fault.TextFault.{TextFault}
-use Rattle.rtl_text.specs.declared.fault.TextFault.TheVariants as fault
+use Rattle.rtl_token.specs.declared.fault.TextFault.{TextFault}
+use Rattle.rtl_token.specs.declared.fault.TextFault.TheVariants as fault
 
 -- the text spells a well-formed transfer, and the bytes are the text of its normal form
 pub record IsNormalTextOf (c : Context) (text bytes : List ℕ) : Type 0 where

@@ -7,9 +7,9 @@ use Rattle.rtl_spelling.specs.Tokens.{Token}
 use Rattle.rtl_spelling.specs.Spelling.{Context, Said}
 use Rattle.rtl_spelling.specs.Reading.{Read, ◌>>=◌, gives, head_of, rest_of, is_sign, expect, move, moves}
 use Rattle.rtl_text.specs.Collected.{move_of, joined, pushed, collected, collects, item}
-use Rattle.rtl_text.specs.Gives.{Fails}
-use Rattle.rtl_text.specs.declared.trouble.Trouble.{Trouble as Stop}
-use Rattle.rtl_text.specs.declared.trouble.Trouble.TheVariants as stop
+use Rattle.rtl_token.specs.Gives.{Fails}
+use Rattle.rtl_token.specs.declared.trouble.Trouble.{Trouble as Stop}
+use Rattle.rtl_token.specs.declared.trouble.Trouble.TheVariants as stop
 
 joined_assoc : (a b d : Option (List Move)) → joined (joined a b) d ≡ joined a (joined b d)
 joined_assoc None b d = refl

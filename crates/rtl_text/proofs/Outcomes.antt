@@ -13,14 +13,14 @@ use Rattle.rtl_spelling.proofs.Lexed.{at_most_one_lexed, at_most_one_spelled, le
 use Rattle.rtl_spelling.proofs.Answered.{reading_answers, spelled_is_read}
 use Rattle.rtl_text.specs.Collected.{collected}
 use Rattle.rtl_text.specs.Answering.{gathered, Outcome, fault_at}
-use Rattle.rtl_text.specs.Refusals.{RefusesTokens}
-use Rattle.rtl_text.specs.Gives.{Fails}
+use Rattle.rtl_token.specs.Refusals.{RefusesTokens}
+use Rattle.rtl_token.specs.Gives.{Fails}
 use Rattle.rtl_text.specs.Seen.{token_of, tokens_of}
-use Rattle.rtl_text.specs.declared.token.Token.{Token as Borrowed}
-use Rattle.rtl_text.specs.declared.fault.TextFault.{TextFault}
-use Rattle.rtl_text.specs.declared.fault.TextFault.TheVariants as fault
-use Rattle.rtl_text.specs.declared.trouble.Trouble.{Trouble as Stop}
-use Rattle.rtl_text.specs.declared.trouble.Trouble.TheVariants as stop
+use Rattle.rtl_token.specs.declared.token.Token.{Token as Borrowed}
+use Rattle.rtl_token.specs.declared.fault.TextFault.{TextFault}
+use Rattle.rtl_token.specs.declared.fault.TextFault.TheVariants as fault
+use Rattle.rtl_token.specs.declared.trouble.Trouble.{Trouble as Stop}
+use Rattle.rtl_token.specs.declared.trouble.Trouble.TheVariants as stop
 
 -- moves and what is said
 

@@ -12,7 +12,7 @@ use Rattle.rtl_spelling.specs.Holes.{Open, leaf_named}
 use Rattle.rtl_spelling.specs.Spelling.{Context, Placed, Said, IsSpelledCell, Spells, number, symbol, function, block, cell, memory, unary, binary, test, hole, SpellsPlace, to_cell, to_memory, to_hole, SpellsMove, value, lost, SpellsTransfer, last, more}
 use Rattle.rtl_spelling.specs.Contract.{said_of, TextSays}
 use Rattle.rtl_text.specs.Seen.{printing_context, reading_context}
-use Rattle.rtl_text.specs.declared.fault.TextFault.{TextFault}
+use Rattle.rtl_token.specs.declared.fault.TextFault.{TextFault}
 use Rattle.rtl_spelling.specs.Printing.{IsPrintableCell, IsPrintableTree, IsPrintableGoal, IsPrintable}
 
 printable_cell : (x : Cell) → IsSpelledCell x → IsPrintableCell x

@@ -4,22 +4,13 @@ use Rattle.rtl_tree.specs.Moves.{Move}
 use Rattle.rtl_tree.specs.WellFormed.{IsWellFormed}
 use Rattle.rtl_spelling.specs.Tokens.{Token, Stuck, spelled}
 use Rattle.rtl_spelling.specs.Spelling.{Context, Said}
-use Rattle.rtl_spelling.specs.Reading.{Trouble, Wrong, Deep, settled}
+use Rattle.rtl_spelling.specs.Reading.{Trouble}
 use Rattle.rtl_spelling.specs.Contract.{said_of, BadFormOf, TooDeepOf, SaysIllFormed, SpellsText, TextSays}
 use Rattle.rtl_text.specs.Collected.{collected}
-use Rattle.rtl_text.specs.declared.fault.TextFault.{TextFault}
-use Rattle.rtl_text.specs.declared.fault.TextFault.TheVariants as fault
-use Rattle.rtl_text.specs.declared.trouble.Trouble.{Trouble as Stop}
-use Rattle.rtl_text.specs.declared.trouble.Trouble.TheVariants as stop
-
-abbrev pub stop_of : Trouble → Stop
-stop_of (Wrong n) = stop.Wrong n
-stop_of (Deep n) = stop.Deep n
-
-abbrev pub settles : Context → List Token → Stop → Stop
-settles c ts stop.NoMemory = stop.NoMemory
-settles c ts (stop.Wrong n) = stop_of (settled c ts (Wrong n))
-settles c ts (stop.Deep n) = stop_of (settled c ts (Deep n))
+use Rattle.rtl_token.specs.declared.fault.TextFault.{TextFault}
+use Rattle.rtl_token.specs.declared.fault.TextFault.TheVariants as fault
+use Rattle.rtl_token.specs.declared.trouble.Trouble.{Trouble as Stop}
+use Rattle.rtl_token.specs.declared.trouble.Trouble.TheVariants as stop
 
 -- what was read, as moves where each place can be one
 abbrev pub gathered : Result (List Said) Trouble → Result (Option (List Move)) Trouble

@@ -1,7 +1,4 @@
-pub mod Length
 pub mod Seen
-pub mod Refusals
-pub mod Gives
 pub mod Unary
 pub mod Collected
 pub mod Answering

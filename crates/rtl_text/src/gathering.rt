@@ -5,16 +5,13 @@ ghost use Rattle.std.specs.Option.{option_map};
 ghost use Rattle.rtl_word.specs.Words.{IsWordSize};
 ghost use Rattle.rtl_spelling.specs.Reading;
 ghost use Rattle.rtl_text.specs.Collected.{collects, item, move_of, pushed};
-ghost use Rattle.rtl_text.specs.Gives.{Gives};
+ghost use Rattle.rtl_token.specs.Gives.{Gives};
 ghost use Rattle.rtl_text.specs.Seen.{context_of, said_by, tokens_of};
 
-use crate::context::Context;
-use crate::cursor::{expect, head_of, is_sign, rest_of, wrong};
 use crate::moves::assignment;
 use crate::said::Assignment;
-use crate::token::Token;
-use crate::trouble::Trouble;
 use rtl_spelling::Sign;
+use rtl_token::{Context, Token, Trouble, expect, head_of, is_sign, rest_of, wrong};
 use rtl_tree::{Assign, NoMemory};
 use smallvec::SmallVec;
 use std::alloc::Global;

@@ -7,17 +7,13 @@ ghost use Rattle.rtl_tree.specs.Trees.{tree_of};
 ghost use Rattle.rtl_tree.specs.Moves.{goal_of};
 ghost use Rattle.rtl_spelling.specs.Spelling.{goal_of_leaf};
 ghost use Rattle.rtl_spelling.specs.Reading;
-ghost use Rattle.rtl_text.specs.Gives.{Gives};
+ghost use Rattle.rtl_token.specs.Gives.{Gives};
 ghost use Rattle.rtl_text.specs.Seen.{context_of, said_by, tokens_of};
 
-use crate::context::Context;
-use crate::cursor::{expect, head_of, index, rest_of, wrong};
 use crate::said::Assignment;
-use crate::senses::sense_of;
-use crate::token::Token;
 use crate::trees::{address, hole, tree};
-use crate::trouble::Trouble;
 use rtl_spelling::{Sense, Sign};
+use rtl_token::{Context, Token, Trouble, expect, head_of, index, rest_of, sense_of, wrong};
 use rtl_tree::{Expr, Place, Width};
 use std::alloc::Global;
 

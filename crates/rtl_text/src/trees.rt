@@ -4,44 +4,20 @@
 //! stand one in the other.
 
 ghost use Rattle.std.specs.Prelude.{◌≡◌, ◌∷◌};
-ghost use Rattle.std.specs.Option.{option_map};
 ghost use Rattle.rtl_word.specs.Words.{IsWordSize};
 ghost use Rattle.rtl_tree.specs.Trees.{tree_of};
-ghost use Rattle.rtl_spelling.specs.Holes.{leaf_named};
 ghost use Rattle.rtl_spelling.specs.Reading;
-ghost use Rattle.rtl_text.specs.Gives.{Fails, Gives};
-ghost use Rattle.rtl_text.specs.Seen.{context_of, token_of, tokens_of};
+ghost use Rattle.rtl_token.specs.Gives.{Fails, Gives};
+ghost use Rattle.rtl_token.specs.Seen.{context_of, tokens_of};
 ghost use Rattle.rtl_text.specs.Unary.{unary};
 
-use crate::context::Context;
-use crate::cursor::{expect, head_of, index, is_sign, rest_of, wrong};
-use crate::senses::sense_of;
-use crate::token::Token;
-use crate::trouble::Trouble;
-use rtl_spelling::{Bank, OpenHole, Sense, Sign};
+use rtl_spelling::{Bank, Sense, Sign};
+use rtl_token::{
+    Context, Token, Trouble, expect, head_of, index, is_sign, leaf_at, rest_of, sense_of, wrong,
+};
 use rtl_tree::{BinOp, Expr, UnOp, Width, copy};
 use rtl_word::Rel;
 use std::alloc::Global;
-
-fn leaf_named<'h>(holes: &'h [OpenHole], name: &[u8]) -> Option<&'h Expr>
-    ensures { option_map (λ e. tree_of e.now) result ≡ leaf_named holes.now name.now }
-{
-    for hole in holes {
-        if hole.name.as_slice() == name {
-            return Some(&hole.leaf);
-        }
-    }
-    None
-}
-
-pub(crate) fn leaf_at<'c>(c: &Context<'c>, token: Token<'_>) -> Option<&'c Expr>
-    ensures { option_map (λ e. tree_of e.now) result ≡ Reading.leaf_at (context_of c.now) (token_of token.entry) }
-{
-    match token {
-        Token::Word(name) => leaf_named(c.holes, name),
-        _ => None,
-    }
-}
 
 fn has_holes(c: &Context<'_>) -> bool
     ensures { result ≡ Reading.has_holes (context_of c.now).holes }

@@ -2,7 +2,7 @@ use Rattle.std.proofs.Common.{◌≡◌, ℕ, suc, ◌+◌, ◌-◌, List, lengt
 use Rattle.std.proofs.lemmas.Result.{err_from_is_err_and}
 use Rattle.rtl_spelling.specs.Spelling.{Context, Said}
 use Rattle.rtl_spelling.specs.Reading.{Trouble}
-use Rattle.rtl_text.specs.Gives.{Fails}
+use Rattle.rtl_token.specs.Gives.{Fails}
 use Rattle.rtl_text.specs.Seen.{context_of, said_by, tokens_of}
 use Rattle.md_open.proofs.MovesRead.{failed, ended, onward}
 use Rattle.md_open.proofs.transfers.read_moves.Goals as goal

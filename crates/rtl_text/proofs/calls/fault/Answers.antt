@@ -2,7 +2,7 @@ use Rattle.std.proofs.Common.{ap, sym, ◌∙◌, length}
 use Rattle.rtl_spelling.specs.Tokens.{spelled}
 use Rattle.rtl_text.specs.Answering.{fault_at}
 use Rattle.rtl_text.specs.Seen.{tokens_of}
-use Rattle.rtl_text.specs.declared.fault.TextFault.TheVariants as fault
+use Rattle.rtl_token.specs.declared.fault.TextFault.TheVariants as fault
 use Rattle.rtl_text.proofs.Outcomes.{taken_tokens}
 use Rattle.rtl_text.proofs.calls.fault.Goals as goal
 

@@ -4,7 +4,7 @@ use Rattle.rtl_tree.specs.Moves.{Move}
 use Rattle.rtl_spelling.specs.Tokens.{Token}
 use Rattle.rtl_spelling.specs.Spelling.{Context}
 use Rattle.rtl_spelling.specs.Reading.{Read, moves}
-use Rattle.rtl_text.specs.Gives.{Fails}
+use Rattle.rtl_token.specs.Gives.{Fails}
 use Rattle.std.proofs.lemmas.Result.{err_from_is_err_and}
 use Rattle.rtl_text.specs.Collected.{collects}
 use Rattle.rtl_text.specs.Seen.{context_of, said_by, tokens_of}

@@ -6,7 +6,7 @@ use Rattle.rtl_spelling.specs.Tokens.{Token}
 use Rattle.rtl_spelling.specs.Spelling.{Context}
 use Rattle.rtl_spelling.specs.Senses.{sense_of}
 use Rattle.rtl_spelling.specs.Reading.{Read, Reader, tree, tree_on, inside, head_of}
-use Rattle.rtl_text.specs.Gives.{Gives}
+use Rattle.rtl_token.specs.Gives.{Gives}
 use Rattle.rtl_text.specs.Seen.{context_of, tokens_of}
 use Rattle.rtl_text.proofs.trees.+reading.Goals as goal
 

@@ -1,0 +1,4 @@
+pub mod Numbers
+pub mod Longest
+pub mod Cuts
+pub mod Spans

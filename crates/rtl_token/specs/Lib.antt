@@ -1,0 +1,5 @@
+pub mod Length
+pub mod Seen
+pub mod Refusals
+pub mod Gives
+pub mod Settling

@@ -1,0 +1,66 @@
+-- The cells that a transfer reads and sets, and what a temporary stands in.
+use Rattle.std.specs.Prelude.{◌≡◌, ◌<◌, ℕ, ◌==◌, ◌||◌, Bool, true, false, is_some, List, [], ◌∷◌, Contains}
+use Rattle.std.specs.List.{list_any}
+use Rattle.rtl_tree.specs.declared.cells.Cell.{Cell}
+use Rattle.rtl_tree.specs.declared.cells.Cell.TheVariants.{Hard, Temp, Flag, Pc, Input, Output, Halt, Hole}
+use Rattle.rtl_tree.specs.declared.expressions.BinOp.{BinOp}
+use Rattle.rtl_tree.specs.Trees.{Tree, Number, Symbol, CodeLabel, Read, Load, Unary, Binary, NoPair, AnyNumber, AnyName}
+use Rattle.rtl_tree.specs.Moves.{Goal, ToCell, ToMemory, Move}
+use Rattle.rtl_tree.specs.Same.{same_cell}
+use Rattle.rtl_effect.specs.Effects.{assigned, takes}
+use Rattle.temp_machine.specs.Routines.{Routine, block_transfers}
+
+-- a cell of a tree has a property
+abbrev pub some_cell : (Cell → Bool) → Tree → Bool
+some_cell p (Read c) = p c
+some_cell p (Load w a) = some_cell p a
+some_cell p (Unary o a) = some_cell p a
+some_cell p (Binary o a b) = some_cell p a || some_cell p b
+some_cell p _ = false
+
+-- of those that are read for the place of an assignment
+abbrev pub some_goal_cell : (Cell → Bool) → Goal → Bool
+some_goal_cell p (ToCell c) = false
+some_goal_cell p (ToMemory w a) = some_cell p a
+
+abbrev pub some_read : (Cell → Bool) → List Move → Bool
+some_read p ms = list_any (λ m. some_goal_cell p m.to || some_cell p m.value) ms
+
+abbrev pub sets_by : (Cell → Bool) → Goal → Bool
+sets_by p (ToCell c) = p c
+sets_by p (ToMemory w a) = false
+
+abbrev pub some_set : (Cell → Bool) → List Move → Bool
+some_set p ms = list_any (λ m. sets_by p m.to) ms
+
+abbrev pub reads : Cell → List Move → Bool
+reads c ms = some_read (same_cell c) ms
+
+-- a read of the input counts as an assignment to it
+abbrev pub sets : Cell → List Move → Bool
+sets Input ms = takes ms
+sets c ms = some_set (same_cell c) ms
+
+abbrev pub is_temporary : Cell → Bool
+is_temporary (Temp n) = true
+is_temporary _ = false
+
+abbrev pub is_flag : Cell → Bool
+is_flag (Flag n) = true
+is_flag _ = false
+
+abbrev pub is_hard_among : (ℕ → Bool) → Cell → Bool
+is_hard_among g (Hard n) = g n
+is_hard_among g _ = false
+
+-- a cell with the property stands in a transfer
+abbrev pub mentions : (Cell → Bool) → List Move → Bool
+mentions p ms = some_read p ms || some_set p ms
+
+-- in a routine
+abbrev pub uses : (Cell → Bool) → Routine → Bool
+uses p r = list_any (λ b. list_any (mentions p) (block_transfers b)) r.blocks
+
+-- whether a temporary stands in the code
+abbrev pub has_temporaries : Routine → Bool
+has_temporaries r = uses is_temporary r

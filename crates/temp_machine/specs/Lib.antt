@@ -1,0 +1,10 @@
+pub mod Cells
+pub mod Flow
+pub mod Keeps
+pub mod Laws
+pub mod Live
+pub mod Machine
+pub mod Routines
+pub mod Small
+pub mod Tidy
+pub mod Whole

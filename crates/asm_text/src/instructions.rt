@@ -1,0 +1,56 @@
+//! The row of an instruction, and whether each label that it names is in its part.
+
+ghost use Rattle.std.specs.Prelude.{◌≡◌, ◌↔◌, All, IsTrue, List, None, Some};
+ghost use Rattle.asm_token.specs.Tokens.{Token};
+ghost use Rattle.asm_line.specs.Readable.{IsReadable};
+ghost use Rattle.asm_line.specs.Walk.{IsLine};
+ghost use Rattle.asm_line.specs.Found.{value_of, values_of};
+ghost use Rattle.asm_program.specs.TextLines.{Said as SpecSaid};
+ghost use Rattle.asm_program.specs.Rules.{IsPlaced};
+ghost use Rattle.asm_text.specs.Tables.{AreLabels};
+ghost use Rattle.asm_text.specs.Checks.{IsRowChecked};
+
+use crate::labels::Labels;
+use crate::saying::Label;
+use asm_line::reading::find_row;
+use asm_line::values::Value;
+use asm_program::{Part, Place, Rule};
+use md_rows::RawDescription;
+
+fn stands_in(labels: &Labels<'_>, label: Label<'_>, part: Part) -> bool {
+    matches!(labels.find(label), Some(place) if place.part == part)
+}
+
+fn is_placed(labels: &Labels<'_>, value: Value<'_>) -> bool
+    ensures { (all : List SpecSaid) → AreLabels all labels.now → (IsTrue result ↔ IsPlaced all (value_of value.entry)) }
+{
+    match value {
+        Value::Object(name) => stands_in(labels, Label::Symbol(name), Part::InData),
+        Value::Function(name) => stands_in(labels, Label::Symbol(name), Part::InText),
+        Value::Block(block) => stands_in(labels, Label::Block(block), Part::InText),
+        Value::Register(_) | Value::Number(_) => true,
+    }
+}
+
+fn are_placed(labels: &Labels<'_>, values: &[Value<'_>]) -> bool
+    ensures { (all : List SpecSaid) → AreLabels all labels.now → (IsTrue result ↔ All (IsPlaced all) (values_of values.now)) }
+{
+    values.iter().all(|value| is_placed(labels, *value))
+}
+
+/// The rule that an instruction breaks by its row or its labels.
+pub(crate) fn row_fault(d: &RawDescription, labels: &Labels<'_>, line: &[u8]) -> Option<Rule>
+    requires readable { IsReadable d.now }
+    ensures { (all : List SpecSaid) (ts : List Token) → AreLabels all labels.now → IsLine line.now ts → IsRowChecked d.now all ts result }
+{
+    match find_row(d, line) {
+        None => Some(Rule::NoRow),
+        Some((_, values)) => {
+            if are_placed(labels, values.as_slice()) {
+                None
+            } else {
+                Some(Rule::NotInPart)
+            }
+        }
+    }
+}

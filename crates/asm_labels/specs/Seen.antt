@@ -2,10 +2,10 @@
 use Rattle.std.specs.Prelude.{◌≡◌, ℕ, List}
 use Rattle.asm_token.specs.Tokens.{Token}
 use Rattle.asm_line.specs.Walk.{IsLine}
-use Rattle.asm_text.specs.declared.saying.Label.{Label as HeldLabel}
-use Rattle.asm_text.specs.declared.saying.Label.TheVariants as heldlabel
-use Rattle.asm_text.specs.declared.saying.Said.{Said as Held}
-use Rattle.asm_text.specs.declared.saying.Said.TheVariants as held
+use Rattle.asm_labels.specs.declared.saying.Label.{Label as HeldLabel}
+use Rattle.asm_labels.specs.declared.saying.Label.TheVariants as heldlabel
+use Rattle.asm_labels.specs.declared.saying.Said.{Said as Held}
+use Rattle.asm_labels.specs.declared.saying.Said.TheVariants as held
 use Rattle.asm_program.specs.TextLines.{Label, Block, Symbol, Said, Nothing, Unreadable, TextBegins, DataBegins, Labelled, Mislabelled, Word, Byte, Space, Others, Says}
 
 abbrev pub label_of : HeldLabel → Label

@@ -3,8 +3,8 @@ use Rattle.asm_program.specs.declared.places.Place.{Place}
 use Rattle.asm_program.specs.TextLines.{Label, Said}
 use Rattle.asm_program.specs.Places.{first_from, first_place}
 use Rattle.asm_program.specs.Rules.{AreSaid}
-use Rattle.asm_text.specs.Tables.{place_in, or_later}
-use Rattle.asm_text.proofs.labels.labels_of.Given as goal
+use Rattle.asm_labels.specs.Tables.{place_in, or_later}
+use Rattle.asm_labels.proofs.labels.labels_of.Given as goal
 
 abbrev pub invariant-loop-rest : goal.invariant-loop-rest
 invariant-loop-rest l =

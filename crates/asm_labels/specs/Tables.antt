@@ -6,7 +6,7 @@ use Rattle.asm_program.specs.declared.places.Place.{Place}
 use Rattle.asm_program.specs.TextLines.{Label, Block, Symbol, Said}
 use Rattle.asm_program.specs.Places.{first_place}
 use Rattle.asm_program.specs.Rules.{AreSaid}
-use Rattle.asm_text.specs.declared.labels.Labels.{Labels}
+use Rattle.asm_labels.specs.declared.labels.Labels.{Labels}
 
 abbrev pub place_in : Labels → Label → Option Place
 place_in t (Block b) = get nat_eq t.blocks b

@@ -4,8 +4,8 @@ ghost use Rattle.std.specs.Prelude.{◌≡◌, IfOk, List, None};
 ghost use Rattle.asm_token.specs.Tokens.{Token};
 ghost use Rattle.asm_program.specs.TextLines.{Label as SpecLabel};
 ghost use Rattle.asm_program.specs.Places.{is_label_line, part_after, same_label};
-ghost use Rattle.asm_text.specs.Seen.{label_of, seen};
-ghost use Rattle.asm_text.specs.Tables.{AreLabelsOf, kept, place_in};
+ghost use Rattle.asm_labels.specs.Seen.{label_of, seen};
+ghost use Rattle.asm_labels.specs.Tables.{AreLabelsOf, kept, place_in};
 
 use crate::saying::{Label, Said, said};
 use crate::splitting::split_line;
@@ -16,7 +16,7 @@ use std::collections::HashMap;
 
 /// Where labels stand first.
 #[derive(Drop)]
-pub(crate) struct Labels<'t> {
+pub struct Labels<'t> {
     blocks: HashMap<u32, Place>,
     symbols: HashMap<&'t [u8], Place>,
 }
@@ -32,7 +32,7 @@ impl<'t> Labels<'t> {
     }
 
     /// Where a label stands first.
-    pub(crate) fn find(&self, label: Label<'_>) -> Option<Place>
+    pub fn find(&self, label: Label<'_>) -> Option<Place>
         ensures { result ≡ place_in self.now (label_of label.entry) }
     {
         match label {
@@ -77,7 +77,7 @@ fn with_said<'t>(
     }
 }
 
-pub(crate) fn part_after(part: Part, said: Said<'_>) -> Part
+pub fn part_after(part: Part, said: Said<'_>) -> Part
     ensures { (ts : List Token) → result ≡ part_after part (seen said.entry ts) }
 {
     match (part, said) {
@@ -88,7 +88,7 @@ pub(crate) fn part_after(part: Part, said: Said<'_>) -> Part
 }
 
 /// Where each label of a text stands first.
-pub(crate) fn labels_of(alloc: Global, text: &[u8]) -> Result<Labels<'_>, NoMemory>
+pub fn labels_of(alloc: Global, text: &[u8]) -> Result<Labels<'_>, NoMemory>
     ensures { IfOk result (λ labels. AreLabelsOf text.now labels) }
 {
     let mut labels = Labels::new(alloc);

@@ -6,19 +6,23 @@ ghost use Rattle.asm_line.specs.Readable.{IsReadable};
 ghost use Rattle.asm_line.specs.Walk.{IsLine};
 ghost use Rattle.asm_line.specs.Found.{value_of, values_of};
 ghost use Rattle.asm_program.specs.TextLines.{Said as SpecSaid};
-ghost use Rattle.asm_program.specs.Rules.{IsPlaced};
-ghost use Rattle.asm_text.specs.Tables.{AreLabels};
-ghost use Rattle.asm_text.specs.Checks.{IsRowChecked};
+ghost use Rattle.asm_program.specs.Rules.{IsPlaced, StandsIn};
+ghost use Rattle.asm_labels.specs.Seen.{label_of};
+ghost use Rattle.asm_labels.specs.Tables.{AreLabels};
+ghost use Rattle.asm_faults.specs.Checks.{IsRowChecked};
 
-use crate::labels::Labels;
-use crate::saying::Label;
-use asm_line::reading::find_row;
-use asm_line::values::Value;
-use asm_program::{Part, Place, Rule};
+use asm_labels::{Label, Labels};
+use asm_line::{Value, find_row};
+use asm_program::{Part, Rule};
 use md_rows::RawDescription;
 
-fn stands_in(labels: &Labels<'_>, label: Label<'_>, part: Part) -> bool {
-    matches!(labels.find(label), Some(place) if place.part == part)
+fn stands_in(labels: &Labels<'_>, label: Label<'_>, part: Part) -> bool
+    ensures { (all : List SpecSaid) → AreLabels all labels.now → (IsTrue result ↔ StandsIn all (label_of label.entry) part) }
+{
+    match labels.find(label) {
+        Some(place) => place.part == part,
+        None => false,
+    }
 }
 
 fn is_placed(labels: &Labels<'_>, value: Value<'_>) -> bool

@@ -5,22 +5,22 @@ ghost use Rattle.asm_token.specs.Tokens.{Token as SpecToken, Name as NameToken, 
 ghost use Rattle.asm_token.specs.Seen.{token_of};
 ghost use Rattle.asm_line.specs.Walk.{IsLine};
 ghost use Rattle.asm_program.specs.TextLines.{IsLabel, Label as SpecLabel, SayTokens, is_skipped, says_name, says_number};
-ghost use Rattle.asm_text.specs.Seen.{IsSaid, label_of, seen};
+ghost use Rattle.asm_labels.specs.Seen.{IsSaid, label_of, seen};
 
-use asm_line::tokens::{Next, are_tokens, next_token};
-use asm_line::values::{block_in, symbol_in};
+use asm_line::{Next, are_tokens, next_token};
+use asm_line::{block_in, symbol_in};
 use asm_token::token::Token;
 
 /// A label. The name of an object or a function stands in the text.
 #[derive(Clone, Copy, Debug, PartialEq, Eq)]
-pub(crate) enum Label<'t> {
+pub enum Label<'t> {
     Block(u32),
     Symbol(&'t [u8]),
 }
 
 /// What a line says.
 #[derive(Clone, Copy, Debug, PartialEq, Eq)]
-pub(crate) enum Said<'t> {
+pub enum Said<'t> {
     /// It is skipped.
     Nothing,
     /// It is too long, or its bytes are no tokens.
@@ -37,7 +37,7 @@ pub(crate) enum Said<'t> {
 
 
 // Whether a line is blank, or a comment.
-pub(crate) fn is_skipped(line: &[u8]) -> bool
+pub fn is_skipped(line: &[u8]) -> bool
     ensures { result ≡ is_skipped line.now }
 {
     for byte in line {
@@ -135,7 +135,7 @@ fn by_tokens(line: &[u8]) -> Said<'_>
 }
 
 /// What a line says.
-pub(crate) fn said(line: &[u8]) -> Said<'_>
+pub fn said(line: &[u8]) -> Said<'_>
     ensures { IsSaid line.now result }
 {
     if line.len() > 640 {

@@ -12,7 +12,7 @@ ghost use Rattle.asm_faults.specs.Checks.{IsJudged, IsWalked};
 
 use crate::checking::{is_within, line_fault};
 use crate::positions::Standing;
-use asm_labels::{Labels, is_skipped, labels_of, said, split_line};
+use asm_labels::{Labels, is_skipped, labels_of, said_on, split_line};
 use asm_program::law::says_one_thing;
 use asm_program::{Part, Place, Rule};
 use md_rows::RawDescription;
@@ -80,7 +80,7 @@ fn first_fault(
     let (_, mut rest) = text.split_at(0);
     while !rest.is_empty() {
         let (line, behind) = split_line(rest);
-        let said = said(line);
+        let said = said_on(line);
         let number = at.place.line + 1;
         if let Some(rule) = line_fault(d, labels, &at, said, line) {
             return Ok(Some((number, rule)));

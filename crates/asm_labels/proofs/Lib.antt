@@ -1,1 +1,5 @@
-pub mod Splitting
+pub mod FirstLine
+pub mod FirstPlaces
+pub mod Kept
+pub mod Says
+pub mod Tokens

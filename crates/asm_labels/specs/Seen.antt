@@ -1,5 +1,5 @@
 -- What the program holds of a line, as what the line says.
-use Rattle.std.specs.Prelude.{◌≡◌, ℕ, List}
+use Rattle.std.specs.Prelude.{◌≡◌, ℕ, ◌==◌, Bool, not, List}
 use Rattle.asm_token.specs.Tokens.{Token}
 use Rattle.asm_line.specs.Walk.{IsLine}
 use Rattle.asm_labels.specs.declared.saying.Label.{Label as HeldLabel}
@@ -7,6 +7,10 @@ use Rattle.asm_labels.specs.declared.saying.Label.TheVariants as heldlabel
 use Rattle.asm_labels.specs.declared.saying.Said.{Said as Held}
 use Rattle.asm_labels.specs.declared.saying.Said.TheVariants as held
 use Rattle.asm_program.specs.TextLines.{Label, Block, Symbol, Said, Nothing, Unreadable, TextBegins, DataBegins, Labelled, Mislabelled, Word, Byte, Space, Others, Says}
+
+-- no line feed
+abbrev pub is_within_line : ℕ → Bool
+is_within_line b = not (b == 10)
 
 abbrev pub label_of : HeldLabel → Label
 label_of (heldlabel.Block b) = Block b

@@ -2,12 +2,12 @@
 
 ghost use Rattle.std.specs.Prelude.{◌≡◌, IfOk, List, None};
 ghost use Rattle.asm_token.specs.Tokens.{Token};
-ghost use Rattle.asm_program.specs.TextLines.{Label as SpecLabel};
+ghost use Rattle.asm_program.specs.TextLines.{Block as BlockLabel, Label as SpecLabel, Symbol as SymbolLabel};
 ghost use Rattle.asm_program.specs.Places.{is_label_line, part_after, same_label};
 ghost use Rattle.asm_labels.specs.Seen.{label_of, seen};
 ghost use Rattle.asm_labels.specs.Tables.{AreLabelsOf, kept, place_in};
 
-use crate::saying::{Label, Said, said};
+use crate::saying::{Label, Said, said_on};
 use crate::splitting::split_line;
 use asm_program::{Part, Place};
 use rtl_tree::NoMemory;
@@ -42,26 +42,57 @@ impl<'t> Labels<'t> {
     }
 }
 
+// A label that doesn't stand yet, at its place.
+fn with_block<'t>(
+    mut labels: Labels<'t>,
+    block: u32,
+    place: Place,
+) -> Result<Labels<'t>, NoMemory>
+    requires new { place_in labels (BlockLabel block) ≡ None }
+    ensures { IfOk result (λ more. (l : SpecLabel) → place_in more l ≡ kept (place_in labels.entry l) (same_label (BlockLabel block) l) place) }
+{
+    labels.blocks.insert(block, place)?;
+    Ok(labels)
+}
+
+fn with_symbol<'t>(
+    mut labels: Labels<'t>,
+    symbol: &'t [u8],
+    place: Place,
+) -> Result<Labels<'t>, NoMemory>
+    requires new { place_in labels (SymbolLabel symbol.now) ≡ None }
+    ensures { IfOk result (λ more. (l : SpecLabel) → place_in more l ≡ kept (place_in labels.entry l) (same_label (SymbolLabel symbol.now) l) place) }
+{
+    labels.symbols.insert(symbol, place)?;
+    Ok(labels)
+}
+
+fn with_new<'t>(
+    labels: Labels<'t>,
+    label: Label<'t>,
+    place: Place,
+) -> Result<Labels<'t>, NoMemory>
+    requires new { place_in labels (label_of label) ≡ None }
+    ensures { IfOk result (λ more. (l : SpecLabel) → place_in more l ≡ kept (place_in labels.entry l) (same_label (label_of label.entry) l) place) }
+{
+    match label {
+        Label::Block(block) => with_block(labels, block, place),
+        Label::Symbol(symbol) => with_symbol(labels, symbol, place),
+    }
+}
+
 // Labels, with one that is met at a place, where it wasn't met before.
 fn with_label<'t>(
-    mut labels: Labels<'t>,
+    labels: Labels<'t>,
     label: Label<'t>,
     place: Place,
 ) -> Result<Labels<'t>, NoMemory>
     ensures { IfOk result (λ more. (l : SpecLabel) → place_in more l ≡ kept (place_in labels.entry l) (same_label (label_of label.entry) l) place) }
 {
-    if labels.find(label).is_some() {
-        return Ok(labels);
+    match labels.find(label) {
+        Some(_) => Ok(labels),
+        None => with_new(labels, label, place),
     }
-    match label {
-        Label::Block(block) => {
-            labels.blocks.insert(block, place)?;
-        }
-        Label::Symbol(symbol) => {
-            labels.symbols.insert(symbol, place)?;
-        }
-    }
-    Ok(labels)
 }
 
 fn with_said<'t>(
@@ -99,7 +130,7 @@ pub fn labels_of(alloc: Global, text: &[u8]) -> Result<Labels<'_>, NoMemory>
     let (_, mut rest) = text.split_at(0);
     while !rest.is_empty() {
         let (line, behind) = split_line(rest);
-        let said = said(line);
+        let said = said_on(line);
         labels = with_said(labels, said, place)?;
         place = Place {
             line: place.line + 1,

@@ -11,5 +11,5 @@ mod saying;
 mod splitting;
 
 pub use labels::{Labels, labels_of, part_after};
-pub use saying::{Label, Said, is_skipped, said};
+pub use saying::{Label, Said, is_skipped, said_on};
 pub use splitting::split_line;

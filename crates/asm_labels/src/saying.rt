@@ -1,10 +1,10 @@
 //! What a line of a text says.
 
-ghost use Rattle.std.specs.Prelude.{◌≡◌, [], ◌∷◌, List, MatchOption};
-ghost use Rattle.asm_token.specs.Tokens.{Token as SpecToken, Name as NameToken, Number as NumberToken};
+ghost use Rattle.std.specs.Prelude.{◌≡◌, ◌≢◌, [], ◌∷◌, IsTrue, List, MatchOption, false};
+ghost use Rattle.asm_token.specs.Tokens.{Token as SpecToken, Name as NameToken, Mark as MarkToken, Number as NumberToken};
 ghost use Rattle.asm_token.specs.Seen.{token_of};
 ghost use Rattle.asm_line.specs.Walk.{IsLine};
-ghost use Rattle.asm_program.specs.TextLines.{IsLabel, Label as SpecLabel, SayTokens, is_skipped, says_name, says_number};
+ghost use Rattle.asm_program.specs.TextLines.{IsLabel, Label as SpecLabel, SayTokens, SaysLabel, is_skipped, says_name, says_number};
 ghost use Rattle.asm_labels.specs.Seen.{IsSaid, label_of, seen};
 
 use asm_line::{Next, are_tokens, next_token};
@@ -34,7 +34,6 @@ pub enum Said<'t> {
     Space(i64),
     Others,
 }
-
 
 // Whether a line is blank, or a comment.
 pub fn is_skipped(line: &[u8]) -> bool
@@ -86,10 +85,22 @@ fn by_number(name: &[u8], number: i64) -> Said<'static>
     }
 }
 
-fn by_label(name: &[u8]) -> Said<'_> {
+fn by_label(name: &[u8]) -> Said<'_>
+    ensures { (ts : List SpecToken) → SaysLabel name.now (seen result ts) }
+{
     match label_in(name) {
         Some(label) => Said::Labelled(label),
         None => Said::Mislabelled,
+    }
+}
+
+fn by_mark(name: &[u8], mark: u8) -> Said<'_>
+    ensures { SayTokens (NameToken name.now ∷ (MarkToken mark ∷ [])) (seen result (NameToken name.now ∷ (MarkToken mark ∷ []))) }
+{
+    if mark == b':' {
+        by_label(name)
+    } else {
+        Said::Others
     }
 }
 
@@ -99,12 +110,15 @@ fn by_two<'t>(name: &'t [u8], token: Token<'t>) -> Said<'t>
 {
     match token {
         Token::Number(number) => by_number(name, number),
-        Token::Mark(b':') => by_label(name),
-        _ => Said::Others,
+        Token::Mark(mark) => by_mark(name, mark),
+        Token::Name(_) => Said::Others,
     }
 }
 
-fn is_end(text: &[u8]) -> bool {
+fn is_end(text: &[u8]) -> bool
+    ensures end { IsTrue result → (ts : List SpecToken) → IsLine text.now ts → ts ≡ [] }
+    ensures more { result ≡ false → (ts : List SpecToken) → IsLine text.now ts → ts ≢ [] }
+{
     matches!(next_token(text), Next::End)
 }
 
@@ -135,7 +149,7 @@ fn by_tokens(line: &[u8]) -> Said<'_>
 }
 
 /// What a line says.
-pub fn said(line: &[u8]) -> Said<'_>
+pub fn said_on(line: &[u8]) -> Said<'_>
     ensures { IsSaid line.now result }
 {
     if line.len() > 640 {

@@ -1,0 +1,5 @@
+pub mod FoundOnce
+pub mod LineRules
+pub mod Reached
+pub mod Blank
+pub mod NameSets

@@ -2,7 +2,7 @@
 
 ghost use Rattle.std.specs.Prelude.{◌≡◌, ◌+◌, ◌-◌, ◌<◌, ◌≤◌, ◌^◌, ◌↔◌, IsTrue, List};
 ghost use Rattle.rtl_word.specs.Words.{IsWordSize};
-ghost use Rattle.asm_token.specs.Tokens.{Token};
+ghost use Rattle.asm_token.specs.Tokens.{Token as SpecToken};
 ghost use Rattle.asm_line.specs.Readable.{IsReadable};
 ghost use Rattle.asm_line.specs.Walk.{IsLine};
 ghost use Rattle.asm_program.specs.declared.places.Part.TheVariants.{InData, InText};
@@ -31,7 +31,7 @@ fn is_between(low: u64, high: u64, number: i64) -> bool
 }
 
 fn is_dotted(line: &[u8]) -> bool
-    ensures { (ts : List Token) → IsLine line.now ts → result ≡ is_dotted ts }
+    ensures { (ts : List SpecToken) → IsLine line.now ts → result ≡ is_dotted ts }
 {
     match next_token(line) {
         Next::Token(Token::Name(name), _) => matches!(name, [b'.', ..]),
@@ -52,7 +52,7 @@ fn is_word_in_range(word: u32, number: i64) -> bool
 
 fn is_in_data(word: u32, said: Said<'_>) -> bool
     requires size { IsWordSize word }
-    ensures { (ts : List Token) → result ≡ is_in_place word InData (seen said.entry ts) }
+    ensures { (ts : List SpecToken) → result ≡ is_in_place word InData (seen said.entry ts) }
 {
     match said {
         Said::Nothing | Said::Unreadable | Said::Labelled(_) => true,
@@ -64,7 +64,7 @@ fn is_in_data(word: u32, said: Said<'_>) -> bool
 }
 
 fn is_in_text(word: u32, said: Said<'_>, line: &[u8]) -> bool
-    ensures { (ts : List Token) → OnOthers said.entry (IsLine line.now ts) → result ≡ is_in_place word InText (seen said.entry ts) }
+    ensures { (ts : List SpecToken) → OnOthers said.entry (IsLine line.now ts) → result ≡ is_in_place word InText (seen said.entry ts) }
 {
     match said {
         Said::Nothing | Said::Unreadable | Said::DataBegins | Said::Labelled(_) => true,
@@ -75,7 +75,7 @@ fn is_in_text(word: u32, said: Said<'_>, line: &[u8]) -> bool
 
 fn is_in_place(word: u32, part: Part, said: Said<'_>, line: &[u8]) -> bool
     requires size { IsWordSize word }
-    ensures { (ts : List Token) → OnOthers said.entry (IsLine line.now ts) → result ≡ is_in_place word part (seen said.entry ts) }
+    ensures { (ts : List SpecToken) → OnOthers said.entry (IsLine line.now ts) → result ≡ is_in_place word part (seen said.entry ts) }
 {
     match part {
         Part::Outside => matches!(said, Said::Nothing | Said::Unreadable | Said::TextBegins),
@@ -95,7 +95,7 @@ fn stands_at(labels: &Labels<'_>, label: Label<'_>, line: usize) -> bool
 
 // Whether each label of a line stands first at this place.
 fn is_first_here(labels: &Labels<'_>, said: Said<'_>, line: usize) -> bool
-    ensures { (all : List SpecSaid) (ts : List Token) → AreLabels all labels.now → (IsTrue result ↔ IsFirstHere all line (seen said.entry ts)) }
+    ensures { (all : List SpecSaid) (ts : List SpecToken) → AreLabels all labels.now → (IsTrue result ↔ IsFirstHere all line (seen said.entry ts)) }
 {
     match said {
         Said::Labelled(label) => stands_at(labels, label, line),
@@ -112,7 +112,7 @@ pub(crate) fn line_fault(
     line: &[u8],
 ) -> Option<Rule>
     requires readable { IsReadable d.now }
-    ensures { (all : List SpecSaid) (p : Position) (ts : List Token) → AreLabels all labels.now → Shows at.now p → OnOthers said.entry (IsLine line.now ts) → IsChecked d.now all p (seen said.entry ts) result }
+    ensures { (all : List SpecSaid) (p : Position) (ts : List SpecToken) → AreLabels all labels.now → Shows at.now p → OnOthers said.entry (IsLine line.now ts) → IsChecked d.now all p (seen said.entry ts) result }
 {
     if said == Said::Unreadable {
         return Some(Rule::BadTokens);

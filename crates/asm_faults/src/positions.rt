@@ -115,7 +115,7 @@ fn aligned(bytes: usize, reach: usize) -> usize
 fn reach_after(bytes: usize, reach: usize, said: Said<'_>) -> usize
     requires bytes { (0 < bytes) × (bytes ≤ 4) }
     requires reach { reach < 4294967296 }
-    requires size { space_in said.entry < 4294967296 }
+    requires size { space_in said < 4294967296 }
     ensures { (ts : List SpecToken) → result ≡ reach_after bytes reach (seen said.entry ts) }
 {
     match said {
@@ -130,7 +130,7 @@ fn reach_after(bytes: usize, reach: usize, said: Said<'_>) -> usize
 fn reach_in(part: Part, bytes: usize, reach: usize, said: Said<'_>) -> usize
     requires bytes { (0 < bytes) × (bytes ≤ 4) }
     requires reach { reach < 4294967296 }
-    requires size { part ≡ InData → space_in said.entry < 4294967296 }
+    requires size { part ≡ InData → space_in said < 4294967296 }
     ensures { (ts : List SpecToken) → result ≡ reach_in part bytes reach (seen said.entry ts) }
 {
     match part {
@@ -158,9 +158,9 @@ impl<'t> Standing<'t> {
         line: &'t [u8],
     ) -> Result<Standing<'t>, NoMemory>
         requires bytes { (0 < bytes) × (bytes ≤ 4) }
-        requires small { IsSmall self.entry }
-        requires line { self.entry.place.line + 1 < 2 ^ 64 }
-        requires size { self.entry.place.part ≡ InData → space_in said.entry < 4294967296 }
+        requires small { IsSmall self }
+        requires line { self.place.line + 1 < 2 ^ 64 }
+        requires size { self.place.part ≡ InData → space_in said < 4294967296 }
         ensures line { IfOk result (λ h. h.place.line ≡ self.entry.place.line + 1) }
         ensures shows { IfOk result (λ h. (p : Position) (ts : List SpecToken) → Shows self.entry p → OnOthers said.entry (IsLine line.now ts) → Shows h (after bytes p (seen said.entry ts))) }
     {

@@ -1,0 +1,4 @@
+pub mod Opening
+pub mod Reach
+pub mod Ranges
+pub mod DataLines

@@ -1,0 +1,62 @@
+-- The first line of a text, and what it says.
+use Rattle.std.proofs.Common.{◌≡◌, ℕ, List, [], ◌∷◌, refl, sym, ap, subst, ◌∙◌}
+use Rattle.std.specs.List.{AllZip}
+use Rattle.asm_token.specs.Tokens.{Token}
+use Rattle.asm_line.specs.Walk.{IsLine}
+use Rattle.asm_program.specs.TextLines.{Said, DataBegins, Says, lines_of}
+use Rattle.asm_program.specs.Law.{SaysOneThing}
+use Rattle.asm_program.specs.Rules.{AreSaid}
+use Rattle.asm_program.specs.Programs.{data_part}
+use Rattle.asm_labels.specs.declared.saying.Said.{Said as Held}
+use Rattle.asm_labels.specs.declared.saying.Said.TheVariants as held
+use Rattle.asm_labels.specs.Seen.{IsSaid, OnOthers, seen}
+
+-- the lines are what is said of the first line, and others
+pub record Opens (lines : List Said) (line rest : List ℕ) (x : Held) : Type 0 where
+  pub tokens : List Token
+  pub behind : List Said
+  pub are : lines ≡ seen x tokens ∷ behind
+  pub on : OnOthers x (IsLine line tokens)
+  pub others : AreSaid rest behind
+
+module _ (once : SaysOneThing) (line rest : List ℕ) (x : Held) (s : IsSaid line x) where
+  opens_by : (lines : List Said) → AllZip Says (line ∷ lines_of rest) lines → Opens lines line rest x
+  opens_by [] a = absurd a
+  opens_by (y ∷ ys) a =
+      record { tokens = s.tokens; behind = ys; are = ap (λ (z : Said). z ∷ ys) (once line y (seen x s.tokens) a.0 s.says); on = s.are; others = a.1 }
+
+  pub opens : (text : List ℕ) (lines : List Said) → lines_of text ≡ line ∷ lines_of rest → AreSaid text lines → Opens lines line rest x
+  opens text lines e a = opens_by lines (subst (λ (ls : List (List ℕ)). AllZip Says ls lines) e a)
+
+-- the data part is that of the lines that are left
+pub record IsAhead (all : List Said) (rest : List ℕ) : Type 0 where
+  pub left : List Said
+  pub said : AreSaid rest left
+  pub same : data_part all ≡ data_part left
+
+begins : (h : Held) (ts : List Token) (ss : List Said) → h ≡ held.DataBegins → data_part (seen h ts ∷ ss) ≡ ss
+begins h ts ss e = subst (λ (x : Held). data_part (seen x ts ∷ ss) ≡ ss) (sym e) refl
+
+passes : (h : Held) (ts : List Token) (ss : List Said) → (h ≡ held.DataBegins → ⊥) → data_part (seen h ts ∷ ss) ≡ data_part ss
+passes held.DataBegins ts ss n = absurd (n refl)
+passes held.Nothing ts ss n = refl
+passes _ ts ss n = refl
+
+module _ (all : List Said) (line rest behind : List ℕ) (x : Held) (left : List Said) where
+  pub data_here : x ≡ held.DataBegins → data_part all ≡ data_part left → Opens left line behind x → AreSaid behind (data_part all)
+  data_here e same o = subst (λ (ss : List Said). AreSaid behind ss) (sym (same ∙ ap data_part o.are ∙ begins x o.tokens o.behind e)) o.others
+
+  pub data_later : (x ≡ held.DataBegins → ⊥) → data_part all ≡ data_part left → Opens left line behind x → IsAhead all behind
+  data_later n same o = record { left = o.behind; said = o.others; same = same ∙ ap data_part o.are ∙ passes x o.tokens o.behind n }
+
+none_left : (left : List Said) (rest : List ℕ) → rest ≡ [] → AreSaid rest left → left ≡ []
+none_left left rest e a = by_lines left (subst (λ (xs : List ℕ). AreSaid xs left) e a)
+  where
+    by_lines : (ss : List Said) → AllZip Says [] ss → ss ≡ []
+    by_lines [] a = refl
+    by_lines (s ∷ ss) a = absurd a
+
+pub no_data : (all : List Said) (rest : List ℕ) → rest ≡ [] → IsAhead all rest → AreSaid rest (data_part all)
+no_data all rest e a =
+    let none : a.left ≡ [] = none_left a.left rest e a.said in
+    subst (λ (ss : List Said). AreSaid rest ss) (none ∙ sym (a.same ∙ ap data_part none)) a.said

@@ -18,7 +18,7 @@ use Rattle.asm_data.proofs.Ranges.{in_range}
 use Rattle.asm_data.proofs.Reach.{reaches}
 
 pub at_start : (d : RawDescription) (text : List ℕ) (lines : List Said) → AreData d text lines [] → AreDataLeft d lines text [] []
-at_start d text lines a = record { left = lines; data = a; bytes_are = refl; symbols_are = refl }
+at_start d text lines a = record { left = lines; now = a; bytes_are = refl; symbols_are = refl }
 
 map_append : {A B : Type 0} (f : A → B) (xs ys : List A) → map f (xs ++ ys) ≡ map f xs ++ map f ys
 map_append f [] ys = refl
@@ -42,15 +42,15 @@ module _ (d : RawDescription) (x : Held) where
   pub meets : (lines : List Said) (text line rest : List ℕ) (symbols bytes : List ℕ) → (a : AreDataLeft d lines text symbols bytes) → Opens a.left line rest x → Meets lines line rest symbols bytes
   meets lines text line rest symbols bytes a o =
       record {
-        all = a.data.all;
-        position = a.data.position;
-        last = a.data.last;
+        all = a.now.all;
+        position = a.now.position;
+        last = a.now.last;
         tokens = o.tokens;
         behind = o.behind;
         others = o.others;
-        walks = subst (λ (ss : List Said). Walks d a.data.all a.data.position ss a.data.last) o.are a.data.walks;
-        part = a.data.part;
-        reach = a.data.reach;
+        walks = subst (λ (ss : List Said). Walks d a.now.all a.now.position ss a.now.last) o.are a.now.walks;
+        part = a.now.part;
+        reach = a.now.reach;
         bytes_are = subst (λ (ss : List Said). bytes_from (word_bytes d) bytes ss ≡ bytes_from (word_bytes d) [] lines) o.are a.bytes_are;
         symbols_are = subst (λ (ss : List Said). symbols ++ addresses d bytes ss ≡ addresses d [] lines) o.are a.symbols_are;
       }
@@ -78,7 +78,7 @@ module _ (d : RawDescription) (x : Held) where
         let part_is : part_after m.position.part (seen x m.tokens) ≡ InData = ap (λ (p : Part). part_after p (seen x m.tokens)) m.part in
         record {
           left = m.behind;
-          data = record {
+          now = record {
             all = m.all;
             position = after (word_bytes d) m.position (seen x m.tokens);
             last = m.last;
@@ -109,7 +109,7 @@ pub record AreAll (d : RawDescription) (lines : List Said) (symbols bytes : List
 
 pub at_end : (d : RawDescription) (lines : List Said) (rest symbols bytes : List ℕ) → rest ≡ [] → AreDataLeft d lines rest symbols bytes → AreAll d lines symbols bytes
 at_end d lines rest symbols bytes e a =
-    let none : a.left ≡ [] = nothing_left a.left rest e a.data.said in
+    let none : a.left ≡ [] = nothing_left a.left rest e a.now.said in
     record {
       bytes_are = sym (ap (bytes_from (word_bytes d) bytes) none) ∙ a.bytes_are;
       symbols_are = sym (append_nothing symbols) ∙ sym (ap (λ (ss : List Said). symbols ++ addresses d bytes ss) none) ∙ a.symbols_are;

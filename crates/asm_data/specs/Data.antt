@@ -25,7 +25,7 @@ addresses d bytes lines = map (λ o. o.1) (objects_from d.base (word_bytes d) by
 -- what is left of the data adds what the whole has more
 pub record AreDataLeft (d : RawDescription) (lines : List Said) (rest : List ℕ) (symbols bytes : List ℕ) : Type 0 where
   pub left : List Said
-  pub data : AreData d rest left bytes
+  pub now : AreData d rest left bytes
   pub bytes_are : bytes_from (word_bytes d) bytes left ≡ bytes_from (word_bytes d) [] lines
   pub symbols_are : symbols ++ addresses d bytes left ≡ addresses d [] lines
 

@@ -41,7 +41,7 @@ fn with_word(size: usize, bytes: Vec<u8>, number: i64) -> Result<Vec<u8>, NoMemo
     requires size { (size ≡ 2) ⊎ (size ≡ 4) }
     requires reach { length bytes.items < 4294967296 }
     requires number { magnitude number ≤ 256 ^ size }
-    ensures { IfOk result (λ more. more.items ≡ padded size bytes.entry.items ++ low_bytes size (residue (256 ^ size) number)) }
+    ensures { IfOk result (λ more. more.items ≡ padded size bytes.items ++ low_bytes size (residue (256 ^ size) number)) }
 {
     let bytes = padded(size, bytes)?;
     with_low(bytes, size, residue(modulus(size), number))
@@ -70,7 +70,7 @@ pub(crate) fn bytes_after(size: usize, bytes: Vec<u8>, said: Said<'_>) -> Result
     requires size { (size ≡ 2) ⊎ (size ≡ 4) }
     requires reach { length bytes.items < 4294967296 }
     requires number { HasNumber size said }
-    ensures { IfOk result (λ more. (ts : List Token) → more.items ≡ bytes_after size bytes.entry.items (seen said.entry ts)) }
+    ensures { IfOk result (λ more. (ts : List Token) → more.items ≡ bytes_after size bytes.items (seen said.entry ts)) }
 {
     match said {
         Said::Labelled(_) => padded(size, bytes),

@@ -17,7 +17,7 @@ pub(crate) fn residue(modulus: u64, number: i64) -> u64
 
 /// Bytes, with so many low ones of a number, the lowest first.
 pub(crate) fn with_low(bytes: Vec<u8>, count: usize, number: u64) -> Result<Vec<u8>, NoMemory>
-    ensures { IfOk result (λ more. more.items ≡ bytes.entry.items ++ low_bytes count number) }
+    ensures { IfOk result (λ more. more.items ≡ bytes.items ++ low_bytes count number) }
 {
     if count == 0 {
         return Ok(bytes);

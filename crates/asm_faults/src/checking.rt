@@ -1,17 +1,17 @@
 //! The rule that a line breaks.
 
-ghost use Rattle.std.specs.Prelude.{◌≡◌, ◌+◌, ◌-◌, ◌<◌, ◌≤◌, ◌^◌, ◌↔◌, IsTrue, List};
+ghost use Rattle.std.specs.Prelude.{◌≡◌, ◌+◌, ◌-◌, ◌<◌, ◌≤◌, ◌^◌, ◌↔◌, IfNone, IsTrue, List};
 ghost use Rattle.rtl_word.specs.Words.{IsWordSize};
 ghost use Rattle.asm_token.specs.Tokens.{Token as SpecToken};
 ghost use Rattle.asm_line.specs.Readable.{IsReadable};
 ghost use Rattle.asm_line.specs.Walk.{IsLine};
 ghost use Rattle.asm_program.specs.declared.places.Part.TheVariants.{InData, InText};
-ghost use Rattle.asm_program.specs.TextLines.{Said as SpecSaid};
-ghost use Rattle.asm_program.specs.Places.{Position};
+ghost use Rattle.asm_program.specs.TextLines.{Said as SpecSaid, Unreadable};
+ghost use Rattle.asm_program.specs.Places.{Position, magnitude};
 ghost use Rattle.asm_program.specs.Rules.{IsWithin, StandsAt, instruction_limit, is_between, is_dotted, is_in_place};
 ghost use Rattle.asm_labels.specs.Seen.{OnOthers, label_of, seen};
 ghost use Rattle.asm_labels.specs.Tables.{AreLabels};
-ghost use Rattle.asm_faults.specs.Counts.{IsSmall, Shows};
+ghost use Rattle.asm_faults.specs.Counts.{IsSmall, Shows, space_in};
 ghost use Rattle.asm_faults.specs.Checks.{IsChecked, IsFirstHere};
 
 use crate::instructions::row_fault;
@@ -50,15 +50,23 @@ fn is_word_in_range(word: u32, number: i64) -> bool
     }
 }
 
+fn is_space(number: i64) -> bool
+    ensures value { result ≡ is_between 0 16777217 number }
+    ensures near { IsTrue result → magnitude number < 4294967296 }
+{
+    is_between(0, 16_777_217, number)
+}
+
 fn is_in_data(word: u32, said: Said<'_>) -> bool
     requires size { IsWordSize word }
-    ensures { (ts : List SpecToken) → result ≡ is_in_place word InData (seen said.entry ts) }
+    ensures near { IsTrue result → space_in said.entry < 4294967296 }
+    ensures place { (ts : List SpecToken) → result ≡ is_in_place word InData (seen said.entry ts) }
 {
     match said {
         Said::Nothing | Said::Unreadable | Said::Labelled(_) => true,
         Said::Word(number) => is_word_in_range(word, number),
         Said::Byte(number) => is_between(128, 256, number),
-        Said::Space(number) => is_between(0, 16_777_217, number),
+        Said::Space(number) => is_space(number),
         _ => false,
     }
 }
@@ -75,7 +83,8 @@ fn is_in_text(word: u32, said: Said<'_>, line: &[u8]) -> bool
 
 fn is_in_place(word: u32, part: Part, said: Said<'_>, line: &[u8]) -> bool
     requires size { IsWordSize word }
-    ensures { (ts : List SpecToken) → OnOthers said.entry (IsLine line.now ts) → result ≡ is_in_place word part (seen said.entry ts) }
+    ensures near { IsTrue result → part ≡ InData → space_in said.entry < 4294967296 }
+    ensures place { (ts : List SpecToken) → OnOthers said.entry (IsLine line.now ts) → result ≡ is_in_place word part (seen said.entry ts) }
 {
     match part {
         Part::Outside => matches!(said, Said::Nothing | Said::Unreadable | Said::TextBegins),
@@ -103,6 +112,12 @@ fn is_first_here(labels: &Labels<'_>, said: Said<'_>, line: usize) -> bool
     }
 }
 
+fn is_unreadable(said: Said<'_>) -> bool
+    ensures { (ts : List SpecToken) → (IsTrue result ↔ (seen said.entry ts ≡ Unreadable)) }
+{
+    matches!(said, Said::Unreadable)
+}
+
 // The rule of those before the limits that a line breaks.
 pub(crate) fn line_fault(
     d: &RawDescription,
@@ -112,9 +127,10 @@ pub(crate) fn line_fault(
     line: &[u8],
 ) -> Option<Rule>
     requires readable { IsReadable d.now }
-    ensures { (all : List SpecSaid) (p : Position) (ts : List SpecToken) → AreLabels all labels.now → Shows at.now p → OnOthers said.entry (IsLine line.now ts) → IsChecked d.now all p (seen said.entry ts) result }
+    ensures near { IfNone result (at.now.place.part ≡ InData → space_in said.entry < 4294967296) }
+    ensures checked { (all : List SpecSaid) (p : Position) (ts : List SpecToken) → AreLabels all labels.now → Shows at.now p → OnOthers said.entry (IsLine line.now ts) → IsChecked d.now all p (seen said.entry ts) result }
 {
-    if said == Said::Unreadable {
+    if is_unreadable(said) {
         return Some(Rule::BadTokens);
     }
     if !is_first_here(labels, said, at.place.line) {

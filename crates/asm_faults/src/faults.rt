@@ -3,9 +3,9 @@
 ghost use Rattle.std.specs.Prelude.{◌≡◌, IfOk, List, true};
 ghost use Rattle.md_rows.specs.declared.description.RawDescription.{RawDescription as SpecDescription};
 ghost use Rattle.asm_line.specs.Readable.{IsReadable};
-ghost use Rattle.asm_program.specs.TextLines.{Said as SpecSaid};
+ghost use Rattle.asm_program.specs.TextLines.{Said as SpecSaid, lines_of};
 ghost use Rattle.asm_program.specs.Places.{start as first_position};
-ghost use Rattle.asm_program.specs.Rules.{AreSaid, IsTold, is_blank};
+ghost use Rattle.asm_program.specs.Rules.{AreSaid, IsTold, first_is_long, is_blank};
 ghost use Rattle.asm_labels.specs.Tables.{AreLabels};
 ghost use Rattle.asm_faults.specs.Counts.{IsSmall, Shows};
 ghost use Rattle.asm_faults.specs.Checks.{IsJudged, IsWalked};
@@ -37,14 +37,24 @@ fn is_blank(text: &[u8]) -> bool
     true
 }
 
+fn first_is_long(text: &[u8]) -> bool
+    ensures { result ≡ first_is_long (lines_of text.now) }
+{
+    if text.is_empty() {
+        return false;
+    }
+    let (line, _) = split_line(text);
+    line.len() > 640
+}
+
 fn blank_fault(text: &[u8]) -> Told
     requires blank { is_blank text.now ≡ true }
     ensures { (d : SpecDescription) → IsTold d text.now result.0 result.1 }
 {
-    if text.is_empty() || split_line(text).0.len() <= 640 {
-        (1, Rule::Misplaced)
-    } else {
+    if first_is_long(text) {
         (1, Rule::BadTokens)
+    } else {
+        (1, Rule::Misplaced)
     }
 }
 

@@ -1,6 +1,7 @@
 //! The row of an instruction, and whether each label that it names is in its part.
 
-ghost use Rattle.std.specs.Prelude.{◌≡◌, ◌↔◌, All, IsTrue, List, None, Some};
+ghost use Rattle.std.specs.Prelude.{◌↔◌, IsTrue, List};
+ghost use Rattle.std.specs.List.{AllByRecursion};
 ghost use Rattle.asm_token.specs.Tokens.{Token};
 ghost use Rattle.asm_line.specs.Readable.{IsReadable};
 ghost use Rattle.asm_line.specs.Walk.{IsLine};
@@ -37,9 +38,12 @@ fn is_placed(labels: &Labels<'_>, value: Value<'_>) -> bool
 }
 
 fn are_placed(labels: &Labels<'_>, values: &[Value<'_>]) -> bool
-    ensures { (all : List SpecSaid) → AreLabels all labels.now → (IsTrue result ↔ All (IsPlaced all) (values_of values.now)) }
+    ensures { (all : List SpecSaid) → AreLabels all labels.now → (IsTrue result ↔ AllByRecursion (IsPlaced all) (values_of values.now)) }
 {
-    values.iter().all(|value| is_placed(labels, *value))
+    match values {
+        [] => true,
+        [value, rest @ ..] => is_placed(labels, *value) && are_placed(labels, rest),
+    }
 }
 
 /// The rule that an instruction breaks by its row or its labels.

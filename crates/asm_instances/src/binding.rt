@@ -1,8 +1,8 @@
 //! What is bound to the values of a line.
 
 ghost use Rattle.std.specs.Prelude.{◌≡◌, ◌≤◌, All, IfOk, List, Some, length};
-ghost use Rattle.rtl_tree.specs.Names.{AreNames};
 ghost use Rattle.asm_token.specs.Tokens.{Token};
+ghost use Rattle.asm_line.specs.Line.{HasNumber};
 ghost use Rattle.asm_line.specs.Reading.{AreValues, value_in};
 ghost use Rattle.asm_line.specs.Readable.{IsReadable};
 ghost use Rattle.asm_line.specs.Found.{value_of, values_of};
@@ -17,7 +17,8 @@ use std::alloc::Global;
 
 fn bound_of(names: &Names, value: Value<'_>) -> Bound
     requires known { IsKnown names.now (value_of value) }
-    ensures { value_in names.now result ≡ Some (value_of value.entry) }
+    ensures value { value_in names.now result ≡ Some (value_of value.entry) }
+    ensures number { HasNumber result }
 {
     match value {
         Value::Register(number) => Bound::Reg(Cell::Hard(number)),
@@ -37,11 +38,13 @@ fn bound_of(names: &Names, value: Value<'_>) -> Bound
 fn bind(alloc: Global, names: &Names, values: &[Value<'_>]) -> Result<Binding, NoMemory>
     requires known { All (IsKnown names.now) (values_of values.now) }
     requires few { length values.now ≤ 8 }
-    ensures { IfOk result (λ b. AreValues names.now b (values_of values.now)) }
+    ensures values { IfOk result (λ b. AreValues names.now b (values_of values.now)) }
+    ensures numbers { IfOk result (λ b. All HasNumber b) }
 {
     let mut list = SmallVec::new(alloc);
     for value in values {
-        list.push(bound_of(names, *value))?;
+        let bound = bound_of(names, *value);
+        list.push(bound)?;
     }
     Ok(Binding { list })
 }

@@ -1,0 +1,3 @@
+pub mod FoundOnce
+pub mod Items
+pub mod Bound

@@ -22,7 +22,7 @@ fn aligned(size: usize, reach: usize) -> usize
 fn padded(size: usize, mut bytes: Vec<u8>) -> Result<Vec<u8>, NoMemory>
     requires size { (0 < size) × (size ≤ 4) }
     requires reach { length bytes.items < 4294967296 }
-    ensures { IfOk result (λ more. more.items ≡ padded size bytes.entry.items) }
+    ensures { IfOk result (λ more. more.items ≡ padded size bytes.items) }
 {
     let end = aligned(size, bytes.len());
     bytes.resize(end, 0)?;
@@ -49,7 +49,7 @@ fn with_word(size: usize, bytes: Vec<u8>, number: i64) -> Result<Vec<u8>, NoMemo
 
 fn with_byte(mut bytes: Vec<u8>, number: i64) -> Result<Vec<u8>, NoMemory>
     requires number { HasByte number }
-    ensures { IfOk result (λ more. more.items ≡ bytes.entry.items ++ residue 256 number ∷ []) }
+    ensures { IfOk result (λ more. more.items ≡ bytes.items ++ residue 256 number ∷ []) }
 {
     bytes.push(residue(256, number) as u8)?;
     Ok(bytes)
@@ -58,7 +58,7 @@ fn with_byte(mut bytes: Vec<u8>, number: i64) -> Result<Vec<u8>, NoMemory>
 fn with_space(mut bytes: Vec<u8>, number: i64) -> Result<Vec<u8>, NoMemory>
     requires reach { length bytes.items < 4294967296 }
     requires number { magnitude number < 4294967296 }
-    ensures { IfOk result (λ more. more.items ≡ bytes.entry.items ++ replicate (magnitude number) 0) }
+    ensures { IfOk result (λ more. more.items ≡ bytes.items ++ replicate (magnitude number) 0) }
 {
     let end = bytes.len() + number.unsigned_abs() as usize;
     bytes.resize(end, 0)?;

@@ -47,7 +47,7 @@ fn with_symbol(
     said: Said<'_>,
 ) -> Result<Vec<u32>, NoMemory>
     requires address { d.now.base + reach < 4294967296 }
-    ensures { IfOk result (λ more. (ts : List Token) → more.items ≡ symbols.entry.items ++ map (λ o. o.1) (object_of (d.now.base + reach) (seen said.entry ts))) }
+    ensures { IfOk result (λ more. (ts : List Token) → more.items ≡ symbols.items ++ map (λ o. o.1) (object_of (d.now.base + reach) (seen said.entry ts))) }
 {
     match said {
         Said::Labelled(Label::Symbol(_)) => {
@@ -61,8 +61,8 @@ fn with_symbol(
 /// The data of a text of data lines that keep the rules.
 pub fn data_of(alloc: Global, d: &RawDescription, text: &[u8]) -> Result<Data, NoMemory>
     requires size { IsWordSize d.now.word }
-    requires data { (lines : List SpecSaid) × AreData d.now text.now lines [] }
-    ensures { IfOk result (λ data. (lines : List SpecSaid) → AreData d.now text.now lines [] → (data.bytes.items ≡ bytes_from (word_bytes d.now) [] lines) × (data.symbols.items ≡ addresses d.now [] lines)) }
+    requires lines { (lines : List SpecSaid) × AreData d.now text.now lines [] }
+    ensures { IfOk result (λ read. (lines : List SpecSaid) → AreData d.now text.now lines [] → (read.bytes.items ≡ bytes_from (word_bytes d.now) [] lines) × (read.symbols.items ≡ addresses d.now [] lines)) }
 {
     says_one_thing();
     let size = (d.word / 8) as usize;

@@ -1,3 +1,5 @@
 pub mod FoundOnce
 pub mod Items
 pub mod Bound
+pub mod Opening
+pub mod LinesLeft

@@ -1,0 +1,16 @@
+use Rattle.asm_line.proofs.Walking.{empty_text}
+use Rattle.asm_instances.proofs.Opening.{opens}
+use Rattle.asm_instances.proofs.LinesLeft.{at_start, known_line, lines_more, at_end}
+use Rattle.asm_instances.proofs.lines.lines_of.Goals as goal
+
+pub loop-rest-preserved : goal.loop-rest-preserved
+loop-rest-preserved c all t =
+    let a = c.loop-rest.invariant all t in
+    lines_more c.args.d.now c.args.names.now all c.loop-rest.rest.now c.split_line.result.0.now c.split_line.result.1.now c.loop-rest.lines.items c.said_on-said.result a
+    (opens c.says_one_thing.ensures c.split_line.result.0.now c.split_line.result.1.now c.said_on-said.result c.said_on-said.ensures c.loop-rest.rest.now a.left c.split_line.ensures.lines a.said)
+    c.in_ok-lines.lines.items c.in_ok-lines.ensures
+
+pub returns : goal.returns
+returns c all t =
+    at_end c.args.d.now c.args.names.now all c.loop-rest.rest.now c.loop-rest.lines.items (empty_text c.loop-rest.rest.now c.is_empty.result c.is_empty.ensures c.loop-rest-test.false)
+    (c.loop-rest.invariant all t)

@@ -1,5 +1,5 @@
 -- The data, a line further.
-use Rattle.std.proofs.Common.{◌≡◌, ℕ, suc, ◌+◌, ◌-◌, ◌/◌, ◌<◌, ◌≤◌, List, [], ◌∷◌, ◌++◌, length, map, refl, sym, ap, subst, ◌∙◌, arith, append_assoc, true}
+use Rattle.std.proofs.Common.{◌≡◌, ℕ, suc, ◌+◌, ◌-◌, ◌/◌, ◌<◌, ◌≤◌, List, [], ◌∷◌, ◌++◌, length, map, refl, sym, ap, subst, ◌∙◌, arith, append_assoc, true, inl, inr}
 use Rattle.std.specs.List.{AllZip}
 use Rattle.rtl_word.specs.Words.{IsWordSize}
 use Rattle.asm_token.specs.Tokens.{Token}
@@ -118,3 +118,7 @@ at_end d lines rest symbols bytes e a =
     append_nothing : (xs : List ℕ) → xs ++ [] ≡ xs
     append_nothing [] = refl
     append_nothing (x ∷ xs) = ap (λ (ys : List ℕ). x ∷ ys) (append_nothing xs)
+
+pub word_positive : (d : RawDescription) → IsWordSize d.word → 0 < word_bytes d
+word_positive d (inl e) = subst (λ (w : ℕ). 0 < w / 8) (sym e) (omega arith)
+word_positive d (inr e) = subst (λ (w : ℕ). 0 < w / 8) (sym e) (omega arith)

@@ -1,5 +1,6 @@
 -- How far the bytes of the data reach.
-use Rattle.std.proofs.Common.{◌≡◌, ℕ, zero, suc, ◌+◌, ◌*◌, ◌-◌, ◌/◌, ◌%◌, ◌^◌, ◌<◌, ◌≤◌, ℤ, List, [], ◌∷◌, ◌++◌, length, replicate, refl, sym, ap, subst, ◌∙◌, arith, length-append}
+use Rattle.std.proofs.Common.{◌≡◌, ℕ, zero, suc, ◌+◌, ◌*◌, ◌-◌, ◌/◌, ◌%◌, ◌^◌, ◌<◌, ◌≤◌, ℤ, List, [], ◌∷◌, ◌++◌, length, replicate, Result, Ok, Err, refl, sym, ap, subst, ◌∙◌, arith, append_assoc, length-append}
+use Rattle.std.specs.Prelude.{IfOk}
 use Rattle.asm_program.specs.TextLines.{Said, Nothing, Labelled, Word, Byte, Space}
 use Rattle.asm_program.specs.Places.{aligned, magnitude, reach_after}
 use Rattle.asm_program.specs.Programs.{low_bytes, padded, residue, bytes_after}
@@ -33,3 +34,14 @@ reaches n bytes (Byte z) h = length-append bytes (residue 256 z ∷ [])
 reaches n bytes (Space z) h = length-append bytes (replicate (magnitude z) 0) ∙ ap (λ (k : ℕ). length bytes + k) (length_zeros (magnitude z) 0)
 reaches n bytes Nothing h = refl
 reaches n bytes _ h = refl
+
+-- a low byte, and those above it
+pub low_more : (a b : List ℕ) (count n : ℕ) → b ≡ a ++ n % 256 ∷ [] → 0 < count → b ++ low_bytes (count - 1) (n / 256) ≡ a ++ low_bytes count n
+low_more a b zero n e h = absurd (omega arith)
+low_more a b (suc k) n e h =
+    let next : suc k - 1 ≡ k = omega arith in
+    ap (λ (m : ℕ). b ++ low_bytes m (n / 256)) next ∙ ap (λ (bs : List ℕ). bs ++ low_bytes k (n / 256)) e ∙ append_assoc a (n % 256 ∷ []) (low_bytes k (n / 256))
+
+pub weaker : {V E : Type 0} (P Q : V → Type 0) → ((x : V) → P x → Q x) → (r : Result V E) → IfOk r P → IfOk r Q
+weaker P Q f (Ok x) h = f x h
+weaker P Q f (Err e) h = tt

@@ -39,6 +39,12 @@ pub struct Data {
     pub bytes: Vec<u8>,
 }
 
+fn has_small_memory(d: &RawDescription)
+    ensures { d.now.memory < 4294967296 }
+{
+    let _memory = d.memory;
+}
+
 // With the address behind these bytes, where a line has the label of an object.
 fn with_symbol(
     d: &RawDescription,
@@ -65,6 +71,7 @@ pub fn data_of(alloc: Global, d: &RawDescription, text: &[u8]) -> Result<Data, N
     ensures { IfOk result (λ read. (lines : List SpecSaid) → AreData d.now text.now lines [] → (read.bytes.items ≡ bytes_from (word_bytes d.now) [] lines) × (read.symbols.items ≡ addresses d.now [] lines)) }
 {
     says_one_thing();
+    has_small_memory(d);
     let size = (d.word / 8) as usize;
     let mut data = Data {
         symbols: Vec::new(alloc),

@@ -75,7 +75,7 @@ module _ (d : RawDescription) (n : Names) (all : List Said) where
         stays ss new e h more z = subst (λ (ls : List Instance). AllZip (IsBoundLine d n) (instructions all) (ls ++ more)) (sym e) (h more z)
 
         zip_more : (y : Held) (ts : List Token) (new : List Instance) → AddsLine d n line y lines new → OnOthers y (IsLine line ts) → Zips (seen y ts ∷ o.behind) lines → Zips o.behind new
-        zip_more held.Others ts new b l h more z =
+        zip_more held.Others ts new b l h = λ more z.
             subst (λ (ls : List Instance). AllZip (IsBoundLine d n) (instructions all) ls)
             (sym (ap (λ (ls : List Instance). ls ++ more) b.are ∙ append_assoc lines (b.instance ∷ []) more))
             (h (b.instance ∷ more) (b.bound ts l, z))

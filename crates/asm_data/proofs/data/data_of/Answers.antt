@@ -43,9 +43,10 @@ loop-rest-preserved c =
           let o = opens c.says_one_thing.ensures c.split_line.result.0.now c.split_line.result.1.now c.said_on-said.result c.said_on-said.ensures c.loop-rest.rest.now a.left c.split_line.ensures.lines a.now.said in
           let m : Meets c.args.d.now c.said_on-said.result lines c.split_line.result.0.now c.split_line.result.1.now c.loop-rest.data.symbols.items c.loop-rest.data.bytes.items =
           meets c.args.d.now c.said_on-said.result lines c.loop-rest.rest.now c.split_line.result.0.now c.split_line.result.1.now c.loop-rest.data.symbols.items c.loop-rest.data.bytes.items a o in
+          let len : c.len.result ≡ length c.in_ok-bytes.bytes.items = omega (arith, c.len.ensures) in
           data_more c.args.d.now c.said_on-said.result lines c.split_line.result.0.now c.split_line.result.1.now c.loop-rest.data.symbols.items c.loop-rest.data.bytes.items m
           c.in_ok-bytes.bytes.items c.in_ok-symbols.symbols.items positive (c.in_ok-bytes.ensures m.tokens)
-          (subst (λ (n : ℕ). c.in_ok-symbols.symbols.items ≡ c.loop-rest.data.symbols.items ++ map (λ o. o.1) (object_of (c.args.d.now.base + n) (seen c.said_on-said.result m.tokens))) c.len.ensures
+          (subst (λ (n : ℕ). c.in_ok-symbols.symbols.items ≡ c.loop-rest.data.symbols.items ++ map (λ o. o.1) (object_of (c.args.d.now.base + n) (seen c.said_on-said.result m.tokens))) len
               (c.in_ok-symbols.ensures m.tokens));
     }
 

@@ -13,7 +13,7 @@ use Rattle.asm_program.specs.Programs.{bytes_after, bytes_from, objects_from, ob
 use Rattle.asm_labels.specs.declared.saying.Said.{Said as Held}
 use Rattle.asm_labels.specs.Seen.{seen}
 use Rattle.asm_data.specs.Data.{AreData, AreDataLeft, HasNumber, addresses}
-use Rattle.asm_data.proofs.Opening.{Opens}
+use Rattle.asm_labels.proofs.Opening.{Opens}
 use Rattle.asm_data.proofs.Ranges.{in_range}
 use Rattle.asm_data.proofs.Reach.{reaches}
 

@@ -1,4 +1,4 @@
-pub mod Opening
+pub mod Ahead
 pub mod Reach
 pub mod Ranges
 pub mod DataLines

@@ -1,4 +1,3 @@
-pub mod FoundOnce
 pub mod LabelPlaces
 pub mod RowFaults
 pub mod LineRules

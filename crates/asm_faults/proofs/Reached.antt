@@ -12,7 +12,7 @@ use Rattle.asm_program.specs.Rules.{AreSaid, IsWithin, IsBrokenAt, Walks, word_b
 use Rattle.asm_program.proofs.Walking.{walks_more}
 use Rattle.asm_labels.specs.declared.saying.Said.{Said as Held}
 use Rattle.asm_labels.specs.Seen.{IsSaid, OnOthers, seen}
-use Rattle.asm_labels.specs.Tables.{AreLabels}
+use Rattle.asm_labels.proofs.Opening.{opens}
 use Rattle.asm_token.specs.Tokens.{Token}
 use Rattle.asm_line.specs.Walk.{IsLine}
 use Rattle.asm_faults.specs.Counts.{IsSmall, Shows}
@@ -34,17 +34,6 @@ pub record IsReached (d : RawDescription) (all : List Said) (rest : List ℕ) (h
 pub at_start : (d : RawDescription) (all : List Said) (text : List ℕ) (h : Standing) → AreSaid text all → Shows h start → h.place.line ≡ 0 → IsReached d all text h
 at_start d all text h a s e = record { before = []; behind = all; are = refl; said = a; position = start; walks = refl; shows = s; many = sym e }
 
-record Opens (before all : List Said) (line rest : List ℕ) : Type 0 where
-  said : Said
-  behind : List Said
-  are : all ≡ before ++ said ∷ behind
-  says : Says line said
-  others : AreSaid rest behind
-
-opens : (before all behind : List Said) (line rest : List ℕ) → all ≡ before ++ behind → AllZip Says (line ∷ lines_of rest) behind → Opens before all line rest
-opens before all [] line rest e a = absurd a
-opens before all (s ∷ ss) line rest e a = record { said = s; behind = ss; are = e; says = a.0; others = a.1 }
-
 -- the line that is met
 pub record Meets (d : RawDescription) (all : List Said) (line rest : List ℕ) (h : Standing) (x : Held) : Type 0 where
   pub before : List Said
@@ -61,14 +50,13 @@ pub record Meets (d : RawDescription) (all : List Said) (line rest : List ℕ) (
 module _ (d : RawDescription) (all : List Said) where
   pub meets : SaysOneThing → (text line rest : List ℕ) (h : Standing) (x : Held) → lines_of text ≡ line ∷ lines_of rest → IsSaid line x → IsReached d all text h → Meets d all line rest h x
   meets once text line rest h x e s r =
-      let o = opens r.before all r.behind line rest r.are (subst (λ (ls : List (List ℕ)). AllZip Says ls r.behind) e r.said) in
-      let same : o.said ≡ seen x s.tokens = once line o.said (seen x s.tokens) o.says s.says in
+      let o = opens once line rest x s text r.behind e r.said in
       record {
         before = r.before;
         behind = o.behind;
-        tokens = s.tokens;
-        are = subst (λ (y : Said). all ≡ r.before ++ y ∷ o.behind) same o.are;
-        on = s.are;
+        tokens = o.tokens;
+        are = r.are ∙ ap (λ (ss : List Said). r.before ++ ss) o.are;
+        on = o.on;
         others = o.others;
         position = r.position;
         walks = r.walks;

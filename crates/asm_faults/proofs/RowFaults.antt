@@ -11,7 +11,7 @@ use Rattle.asm_program.specs.declared.rules.Rule.TheVariants.{NotInPart}
 use Rattle.asm_program.specs.TextLines.{Said}
 use Rattle.asm_program.specs.Rules.{IsMade, IsPlaced}
 use Rattle.asm_faults.specs.Checks.{IsRowChecked}
-use Rattle.asm_faults.proofs.FoundOnce.{found_once}
+use Rattle.asm_line.proofs.FoundOnce.{found_once}
 
 not_both : (b : Bool) → b ≡ true → b ≡ false → ⊥
 not_both b e f = cc

@@ -14,7 +14,7 @@ use Rattle.asm_line.proofs.Made.{made}
 use Rattle.asm_line.proofs.Unique.{line_reads, one_instance}
 use Rattle.asm_program.specs.Programs.{IsLineIn}
 use Rattle.asm_instances.specs.Known.{IsBoundLine, IsKnown, IsKnownLine}
-use Rattle.asm_instances.proofs.FoundOnce.{found_once}
+use Rattle.asm_line.proofs.FoundOnce.{found_once}
 
 module _ (d : RawDescription) (readable : IsReadable d) (n : Names) (ts : List Token) where
   -- what is found is known

@@ -1,5 +1,3 @@
-pub mod FoundOnce
 pub mod Items
 pub mod Bound
-pub mod Opening
 pub mod LinesLeft

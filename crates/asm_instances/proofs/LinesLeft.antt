@@ -19,7 +19,7 @@ use Rattle.asm_labels.specs.declared.saying.Said.{Said as Held}
 use Rattle.asm_labels.specs.declared.saying.Said.TheVariants as held
 use Rattle.asm_labels.specs.Seen.{OnOthers, seen}
 use Rattle.asm_instances.specs.Known.{AddsLine, AreLinesLeft, HaveLabels, IsBoundLine, IsKnown, IsKnownLine, IsNamedText}
-use Rattle.asm_instances.proofs.Opening.{Opens}
+use Rattle.asm_labels.proofs.Opening.{Opens}
 
 not_dotted : (b : Bool) (ts : List Token) → not b ≡ true → cond b None (Some ts) ≡ Some ts
 not_dotted true ts e = absurd (cc)

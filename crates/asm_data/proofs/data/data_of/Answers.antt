@@ -3,7 +3,7 @@ use Rattle.asm_line.proofs.Walking.{empty_text}
 use Rattle.asm_program.specs.Programs.{object_of, bytes_after}
 use Rattle.asm_program.specs.Rules.{word_bytes}
 use Rattle.asm_labels.specs.Seen.{seen}
-use Rattle.asm_data.proofs.Opening.{opens}
+use Rattle.asm_labels.proofs.Opening.{opens}
 use Rattle.asm_data.proofs.DataLines.{Meets, meets, number_fits, data_fits, data_more, at_end, word_positive}
 use Rattle.asm_data.proofs.data.data_of.Goals as goal
 

@@ -1,5 +1,6 @@
 use Rattle.asm_line.proofs.Walking.{empty_text}
-use Rattle.asm_data.proofs.Opening.{opens, data_here, data_later, no_data}
+use Rattle.asm_labels.proofs.Opening.{opens}
+use Rattle.asm_data.proofs.Ahead.{data_here, data_later, no_data}
 use Rattle.asm_data.proofs.data.data_part.Goals as goal
 
 pub returns-in-DataBegins : goal.returns-in-DataBegins

@@ -40,16 +40,18 @@ same_place p q e = cc
 module _ (all : List Said) (l : Label) (q : Place) where
   -- a label's part is that of its first place
   pub stands_in : (o : Option Place) → o ≡ first_place all l → o ≡ Some q → (b : Bool) (part : Part) → ((b ≡ true → q.part ≡ part) × (q.part ≡ part → b ≡ true)) → IsTrue b ↔ StandsIn all l part
-  stands_in o e f b part d =
-      ((λ t. record { line = q.line; first = sym e ∙ f ∙ ap (λ (x : Part). Some (record { line = q.line; part = x })) (d.0 t) })
-      , λ s. d.1 (ap (λ (x : Place). x.part) (same_place q (record { line = s.line; part = part }) (sym f ∙ e ∙ s.first))))
+  stands_in o e f b part d = (
+    (λ t. record { line = q.line; first = sym e ∙ f ∙ ap (λ (x : Part). Some (record { line = q.line; part = x })) (d.0 t) }),
+    λ s. d.1 (ap (λ (x : Place). x.part) (same_place q (record { line = s.line; part = part }) (sym f ∙ e ∙ s.first))),
+  )
 
 -- the label of a line that has one
 pub first_here : (all : List Said) (line : ℕ) (h : Held) (l : HeldLabel) (ts : List Token) (b : Bool) → h ≡ held.Labelled l → (IsTrue b ↔ StandsAt all (label_of l) line)
     → IsTrue b ↔ IsFirstHere all line (seen h ts)
-first_here all line h l ts b e d =
-    ((λ t k q. subst (λ (x : Label). StandsAt all x line) (same_label (label_of l) k (sym (ap (λ (x : Held). seen x ts) e) ∙ q)) (d.0 t))
-    , λ f. d.1 (f (label_of l) (ap (λ (x : Held). seen x ts) e)))
+first_here all line h l ts b e d = (
+  (λ t k q. subst (λ (x : Label). StandsAt all x line) (same_label (label_of l) k (sym (ap (λ (x : Held). seen x ts) e) ∙ q)) (d.0 t)),
+  λ f. d.1 (f (label_of l) (ap (λ (x : Held). seen x ts) e)),
+)
   where
     same_label : (x y : Label) → Labelled x ≡ Labelled y → x ≡ y
     same_label x y e = cc

@@ -47,7 +47,7 @@ module _ {S : Type 0} (names : List (List ℕ)) (name : List ℕ) (old new : Has
             u q
             ∙ ap (λ (x : Bool). cond (bytes_eq name q) true x) (h.each q)
             ∙ found_after (list_any (bytes_eq name) names) (bytes_eq name q) names name q
-                (λ e. ap (λ (x : List ℕ). list_any (bytes_eq x) names) ((bytes_eq-Decides name q).0 e)) (swapped q name);
+            (λ e. ap (λ (x : List ℕ). list_any (bytes_eq x) names) ((bytes_eq-Decides name q).0 e)) (swapped q name);
       }
     where
       swapped : (x y : List ℕ) → bytes_eq x y ≡ bytes_eq y x

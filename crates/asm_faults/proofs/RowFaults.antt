@@ -21,6 +21,7 @@ module _ (d : RawDescription) (all : List Said) (ts : List Token) (place : ℕ) 
   is_made e = record { place = place; values = vs; found = f; placed = All-from_recursion (IsPlaced all) vs (p.0 e) }
 
   pub not_made : IsReadable d → b ≡ false → IsRowChecked d all ts (Some NotInPart)
-  not_made readable e =
-      ((place, vs, f)
-      , λ m. not_both b (p.1 (recursion_from_All (IsPlaced all) vs (subst (All (IsPlaced all)) (found_once d readable ts m.place place m.values vs m.found f) m.placed))) e)
+  not_made readable e = (
+    (place, vs, f),
+    λ m. not_both b (p.1 (recursion_from_All (IsPlaced all) vs (subst (All (IsPlaced all)) (found_once d readable ts m.place place m.values vs m.found f) m.placed))) e,
+  )

@@ -43,11 +43,7 @@ impl<'t> Labels<'t> {
 }
 
 // A label that doesn't stand yet, at its place.
-fn with_block<'t>(
-    mut labels: Labels<'t>,
-    block: u32,
-    place: Place,
-) -> Result<Labels<'t>, NoMemory>
+fn with_block<'t>(mut labels: Labels<'t>, block: u32, place: Place) -> Result<Labels<'t>, NoMemory>
     requires new { place_in labels (BlockLabel block) ≡ None }
     ensures { IfOk result (λ more. (l : SpecLabel) → place_in more l ≡ kept (place_in labels.entry l) (same_label (BlockLabel block) l) place) }
 {
@@ -67,11 +63,7 @@ fn with_symbol<'t>(
     Ok(labels)
 }
 
-fn with_new<'t>(
-    labels: Labels<'t>,
-    label: Label<'t>,
-    place: Place,
-) -> Result<Labels<'t>, NoMemory>
+fn with_new<'t>(labels: Labels<'t>, label: Label<'t>, place: Place) -> Result<Labels<'t>, NoMemory>
     requires new { place_in labels (label_of label) ≡ None }
     ensures { IfOk result (λ more. (l : SpecLabel) → place_in more l ≡ kept (place_in labels.entry l) (same_label (label_of label.entry) l) place) }
 {
@@ -95,11 +87,7 @@ fn with_label<'t>(
     }
 }
 
-fn with_said<'t>(
-    labels: Labels<'t>,
-    said: Said<'t>,
-    place: Place,
-) -> Result<Labels<'t>, NoMemory>
+fn with_said<'t>(labels: Labels<'t>, said: Said<'t>, place: Place) -> Result<Labels<'t>, NoMemory>
     ensures { IfOk result (λ more. (ts : List Token) (l : SpecLabel) → place_in more l ≡ kept (place_in labels.entry l) (is_label_line l (seen said.entry ts)) place) }
 {
     match said {

@@ -7,8 +7,7 @@ ghost use Rattle.asm_line.specs.Walk.{IsLine};
 ghost use Rattle.asm_program.specs.TextLines.{IsLabel, Label as SpecLabel, SayTokens, SaysLabel, is_skipped, says_name, says_number};
 ghost use Rattle.asm_labels.specs.Seen.{IsSaid, label_of, seen};
 
-use asm_line::{Next, are_tokens, next_token};
-use asm_line::{block_in, symbol_in};
+use asm_line::{Next, are_tokens, block_in, next_token, symbol_in};
 use asm_token::token::Token;
 
 /// A label. The name of an object or a function stands in the text.

@@ -22,7 +22,7 @@ with_symbol-requires c =
     let m : Meets c.args.d.now c.said_on-said.result c.requires.lines.0 c.split_line.result.0.now c.split_line.result.1.now c.loop-rest.data.symbols.items c.loop-rest.data.bytes.items =
     meets c.args.d.now c.said_on-said.result c.requires.lines.0 c.loop-rest.rest.now c.split_line.result.0.now c.split_line.result.1.now c.loop-rest.data.symbols.items c.loop-rest.data.bytes.items a o in
     let fits = data_fits c.args.d.now c.said_on-said.result c.requires.lines.0 c.split_line.result.0.now c.split_line.result.1.now c.loop-rest.data.symbols.items c.loop-rest.data.bytes.items m
-        (word_positive c.args.d.now c.requires.size) in
+    (word_positive c.args.d.now c.requires.size) in
     let same : length c.in_ok-bytes.bytes.items ≡ length (bytes_after (word_bytes c.args.d.now) c.loop-rest.data.bytes.items (seen c.said_on-said.result m.tokens)) = ap length (c.in_ok-bytes.ensures m.tokens) in
     record { address = omega (arith, fits, same, c.len.ensures, c.has_small_memory.ensures) }
 
@@ -47,11 +47,11 @@ loop-rest-preserved c =
           data_more c.args.d.now c.said_on-said.result lines c.split_line.result.0.now c.split_line.result.1.now c.loop-rest.data.symbols.items c.loop-rest.data.bytes.items m
           c.in_ok-bytes.bytes.items c.in_ok-symbols.symbols.items positive (c.in_ok-bytes.ensures m.tokens)
           (subst (λ (n : ℕ). c.in_ok-symbols.symbols.items ≡ c.loop-rest.data.symbols.items ++ map (λ o. o.1) (object_of (c.args.d.now.base + n) (seen c.said_on-said.result m.tokens))) len
-              (c.in_ok-symbols.ensures m.tokens));
+          (c.in_ok-symbols.ensures m.tokens));
     }
 
 pub returns : goal.returns
 returns c lines t =
     let r = at_end c.args.d.now lines c.loop-rest.rest.now c.loop-rest.data.symbols.items c.loop-rest.data.bytes.items
-        (empty_text c.loop-rest.rest.now c.is_empty.result c.is_empty.ensures c.loop-rest-test.false) (c.loop-rest.invariant.left lines t) in
+    (empty_text c.loop-rest.rest.now c.is_empty.result c.is_empty.ensures c.loop-rest-test.false) (c.loop-rest.invariant.left lines t) in
     (r.bytes_are, r.symbols_are)

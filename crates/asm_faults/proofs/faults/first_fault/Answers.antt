@@ -25,8 +25,8 @@ returns-then-not-is_within c all said labels =
     passes_here c.args.d.now all c.split_line.result.0.now c.split_line.result.1.now c.loop-rest.at c.said_on-said.result m (c.loop-rest.at.place.line + 1)
     (c.in_default.ensures.checked all m.position m.tokens labels m.shows m.on)
     (λ w. not_both c.is_within.result
-        ((c.is_within.ensures.within (after (word_bytes c.args.d.now) m.position (seen c.said_on-said.result m.tokens)) (c.in_ok-at.ensures.shows m.position m.tokens m.shows m.on)).1 w)
-        c.if-not-is_within.true)
+    ((c.is_within.ensures.within (after (word_bytes c.args.d.now) m.position (seen c.said_on-said.result m.tokens)) (c.in_ok-at.ensures.shows m.position m.tokens m.shows m.on)).1 w)
+    c.if-not-is_within.true)
     refl
 
 pub loop-rest-preserved : goal.loop-rest-preserved
@@ -41,7 +41,7 @@ loop-rest-preserved c =
           goes_on c.args.d.now all c.split_line.result.0.now c.split_line.result.1.now c.loop-rest.at c.said_on-said.result m c.in_ok-at.at
           (c.in_default.ensures.checked all m.position m.tokens labels m.shows m.on)
           ((c.is_within.ensures.within (after (word_bytes c.args.d.now) m.position (seen c.said_on-said.result m.tokens)) (c.in_ok-at.ensures.shows m.position m.tokens m.shows m.on)).0
-              c.if-not-is_within.false)
+          c.if-not-is_within.false)
           (c.in_ok-at.ensures.shows m.position m.tokens m.shows m.on) c.in_ok-at.ensures.line;
     }
 

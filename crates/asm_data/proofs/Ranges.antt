@@ -1,5 +1,5 @@
 -- The numbers of directives that are in their place.
-use Rattle.std.proofs.Common.{◌≡◌, ℕ, suc, ◌+◌, ◌-◌, ◌/◌, ◌^◌, ◌<◌, ◌≤◌, ℤ, pos, negsuc, Bool, true, List, inl, inr, refl, sym, subst, arith}
+use Rattle.std.proofs.Common.{◌≡◌, ℕ, ◌-◌, ◌/◌, ◌^◌, ◌<◌, ◌≤◌, ℤ, pos, negsuc, true, List, inl, inr, sym, subst, arith}
 use Rattle.std.specs.Prelude.{nat_lt}
 use Rattle.std.proofs.lemmas.Bool.{ltb-true}
 use Rattle.rtl_word.specs.Words.{IsWordSize}
@@ -11,7 +11,7 @@ use Rattle.asm_program.specs.Programs.{residue}
 use Rattle.asm_labels.specs.declared.saying.Said.{Said as Held}
 use Rattle.asm_labels.specs.declared.saying.Said.TheVariants as held
 use Rattle.asm_labels.specs.Seen.{seen}
-use Rattle.asm_data.specs.Data.{HasByte, HasNumber}
+use Rattle.asm_data.specs.Data.{HasNumber}
 
 below : (m n : ℕ) → nat_lt m n ≡ true → m < n
 below m n e = ltb-true m n e

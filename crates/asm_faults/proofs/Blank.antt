@@ -1,5 +1,5 @@
 -- In a text with a line that isn't skipped the part of the text begins.
-use Rattle.std.proofs.Common.{◌≡◌, ◌≢◌, ℕ, ◌==◌, ℤ, Bool, true, false, cond, ◌&&◌, MatchBool, List, [], ◌∷◌, refl, sym, ap, subst, ◌∙◌}
+use Rattle.std.proofs.Common.{◌≡◌, ◌≢◌, ℕ, ◌==◌, ℤ, Bool, true, false, cond, ◌&&◌, MatchBool, List, [], ◌∷◌, refl, sym, subst}
 use Rattle.std.specs.Prelude.{codes}
 use Rattle.std.specs.Str.{bytes_eq}
 use Rattle.asm_token.specs.Tokens.{Token, Name, Number, Mark}
@@ -7,9 +7,9 @@ use Rattle.std.specs.List.{AllZip, list_all}
 use Rattle.md_rows.specs.declared.description.RawDescription.{RawDescription}
 use Rattle.asm_program.specs.declared.places.Part.{Part}
 use Rattle.asm_program.specs.declared.places.Part.TheVariants.{Outside, InText, InData}
-use Rattle.asm_program.specs.TextLines.{Said, Nothing, Unreadable, TextBegins, DataBegins, Labelled, Mislabelled, Word, Byte, Space, Others, Says, too_long, skipped, no_tokens, tokens, is_skipped, lines_of, SaysLabel, SayTokens}
+use Rattle.asm_program.specs.TextLines.{Said, Nothing, Unreadable, TextBegins, DataBegins, Word, Byte, Space, Others, Says, too_long, skipped, no_tokens, tokens, is_skipped, lines_of, SaysLabel, SayTokens}
 use Rattle.asm_program.specs.Places.{Position, start, after, part_after}
-use Rattle.asm_program.specs.Rules.{IsGood, IsSound, Walks, AreSaid, is_in_place, is_blank, word_bytes}
+use Rattle.asm_program.specs.Rules.{IsSound, Walks, AreSaid, is_in_place, is_blank, word_bytes}
 
 not_both : (b : Bool) → b ≡ true → b ≡ false → ⊥
 not_both b e f = cc

@@ -1,5 +1,5 @@
 -- Where labels stand, by the table.
-use Rattle.std.proofs.Common.{◌≡◌, ℕ, ◌↔◌, Bool, true, false, IsTrue, List, Option, Some, None, refl, sym, ap, subst, ◌∙◌}
+use Rattle.std.proofs.Common.{◌≡◌, ℕ, ◌↔◌, Bool, true, false, IsTrue, List, Option, Some, refl, sym, ap, subst, ◌∙◌}
 use Rattle.asm_token.specs.Tokens.{Token}
 use denote.Enum.Bare.{sameb}
 use Rattle.asm_program.specs.contracts.places.Part.{the_type}
@@ -13,8 +13,6 @@ use Rattle.asm_labels.specs.declared.saying.Label.{Label as HeldLabel}
 use Rattle.asm_labels.specs.declared.saying.Said.{Said as Held}
 use Rattle.asm_labels.specs.declared.saying.Said.TheVariants as held
 use Rattle.asm_labels.specs.Seen.{label_of, seen}
-use Rattle.asm_labels.specs.Tables.{AreLabels, place_in}
-use Rattle.asm_labels.specs.declared.labels.Labels.{Labels}
 use Rattle.asm_faults.specs.Checks.{IsFirstHere}
 
 not_both : (b : Bool) → b ≡ true → b ≡ false → ⊥

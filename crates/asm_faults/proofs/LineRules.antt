@@ -1,5 +1,5 @@
 -- The least rule that a line breaks.
-use Rattle.std.proofs.Common.{◌≡◌, ◌≢◌, ℕ, ◌<◌, Bool, true, false, not, cond, List, [], ◌∷◌, Option, Some, None, refl, sym, ap, subst, ◌∙◌, arith}
+use Rattle.std.proofs.Common.{◌≡◌, ◌≢◌, ℕ, ◌<◌, Bool, true, false, not, cond, List, Option, Some, None, refl, sym, subst, ◌∙◌, arith}
 use Rattle.asm_token.specs.Tokens.{Token}
 use Rattle.md_rows.specs.declared.description.RawDescription.{RawDescription}
 use Rattle.asm_line.specs.Found.{IsFound}

@@ -1,5 +1,5 @@
 -- The lines before a place keep the rules, and what their numbers are.
-use Rattle.std.proofs.Common.{◌≡◌, ℕ, suc, ◌+◌, List, [], ◌∷◌, ◌++◌, length, Option, Some, None, refl, sym, ap, subst, ◌∙◌, arith, append_assoc, length-append}
+use Rattle.std.proofs.Common.{◌≡◌, ℕ, ◌+◌, List, [], ◌∷◌, ◌++◌, length, None, refl, sym, ap, subst, ◌∙◌, arith, append_assoc, length-append}
 use Rattle.std.proofs.lemmas.List.{append-nil}
 use Rattle.std.specs.List.{AllZip}
 use Rattle.md_rows.specs.declared.description.RawDescription.{RawDescription}
@@ -15,9 +15,9 @@ use Rattle.asm_labels.specs.Seen.{IsSaid, OnOthers, seen}
 use Rattle.asm_labels.proofs.Opening.{opens}
 use Rattle.asm_token.specs.Tokens.{Token}
 use Rattle.asm_line.specs.Walk.{IsLine}
-use Rattle.asm_faults.specs.Counts.{IsSmall, Shows}
+use Rattle.asm_faults.specs.Counts.{Shows}
 use Rattle.asm_faults.specs.declared.positions.Standing.{Standing}
-use Rattle.asm_faults.specs.Checks.{KeepsRules, IsLeast, IsChecked, IsWalked}
+use Rattle.asm_faults.specs.Checks.{KeepsRules, IsLeast, IsWalked}
 use Rattle.asm_faults.proofs.LineRules.{good, passes}
 
 -- so far the lines keep the rules; rest is left

@@ -1,11 +1,11 @@
 -- What is checked of a line.
-use Rattle.std.specs.Prelude.{◌≡◌, ◌≢◌, ℕ, ◌<◌, length, Bool, true, IsTrue, List, Option, Some, None}
+use Rattle.std.specs.Prelude.{◌≡◌, ◌≢◌, ℕ, ◌<◌, true, List, Option, Some, None}
 use Rattle.asm_token.specs.Tokens.{Token}
 use Rattle.md_rows.specs.declared.description.RawDescription.{RawDescription}
 use Rattle.asm_line.specs.Reading.{Value}
 use Rattle.asm_line.specs.Found.{IsFound}
 use Rattle.asm_program.specs.declared.rules.Rule.{Rule}
-use Rattle.asm_program.specs.declared.rules.Rule.TheVariants.{BadTokens, NoRow, StandsAlready, NotInPart, Misplaced, PassesLimit}
+use Rattle.asm_program.specs.declared.rules.Rule.TheVariants.{NoRow, NotInPart}
 use Rattle.asm_program.specs.TextLines.{Label, Said, Labelled, Unreadable}
 use Rattle.asm_program.specs.Places.{Position, start}
 use Rattle.asm_program.specs.Rules.{Breaks, IsMade, IsTold, IsSound, IsBrokenAt, StandsAt, Walks, AreSaid, number_of, instruction_in, is_in_place}

@@ -1,5 +1,5 @@
 -- What is counted before a line, as the program holds it.
-use Rattle.std.specs.Prelude.{◌≡◌, ℕ, ◌<◌, ◌≤◌, length, filter_map, Bool, List, Option, Some, None}
+use Rattle.std.specs.Prelude.{◌≡◌, ℕ, ◌<◌, ◌≤◌, length, filter_map, List, Option, Some, None}
 use Rattle.std.specs.HashSet.{HashSet, contains_by, hash_set_len}
 use Rattle.std.specs.List.{list_any}
 use Rattle.std.specs.Str.{bytes_eq}

@@ -1,5 +1,5 @@
 -- The instance of a line that is known.
-use Rattle.std.proofs.Common.{◌≡◌, ℕ, List, All, sym, subst}
+use Rattle.std.proofs.Common.{ℕ, List, All, subst}
 use Rattle.asm_token.specs.Tokens.{Token}
 use Rattle.rtl_tree.specs.Names.{AreNames}
 use Rattle.rtl_tree.specs.declared.c_names.Names.{Names}
@@ -12,7 +12,6 @@ use Rattle.asm_line.specs.Reading.{Value, AreValues}
 use Rattle.asm_line.specs.Found.{IsFound, NoRow}
 use Rattle.asm_line.proofs.Made.{made}
 use Rattle.asm_line.proofs.Unique.{line_reads, one_instance}
-use Rattle.asm_program.specs.Programs.{IsLineIn}
 use Rattle.asm_instances.specs.Known.{IsBoundLine, IsKnown, IsKnownLine}
 use Rattle.asm_line.proofs.FoundOnce.{found_once}
 

@@ -1,5 +1,5 @@
 -- The instances of a text, a line further.
-use Rattle.std.proofs.Common.{◌≡◌, ℕ, Bool, true, false, not, cond, List, [], ◌∷◌, ◌++◌, Option, Some, None, All, filter_map, refl, sym, ap, subst, ◌∙◌, append_assoc}
+use Rattle.std.proofs.Common.{◌≡◌, ℕ, Bool, true, false, not, cond, List, [], ◌∷◌, ◌++◌, Some, None, refl, sym, ap, subst, ◌∙◌, append_assoc}
 use Rattle.std.proofs.lemmas.List.{append-nil}
 use Rattle.std.proofs.lemmas.List.Elements.{All-weaker}
 use Rattle.std.specs.List.{AllZip}
@@ -12,7 +12,7 @@ use Rattle.asm_line.specs.Walk.{IsLine}
 use Rattle.asm_program.specs.declared.places.Part.{Part}
 use Rattle.asm_program.specs.declared.places.Part.TheVariants.{Outside, InText, InData}
 use Rattle.asm_program.specs.TextLines.{Said, Others, Says}
-use Rattle.asm_program.specs.Places.{Position, start, after}
+use Rattle.asm_program.specs.Places.{start, after}
 use Rattle.asm_program.specs.Rules.{AreSaid, IsMade, IsPlaced, Walks, instruction_in, is_in_place, is_dotted, word_bytes}
 use Rattle.asm_program.specs.Programs.{instructions}
 use Rattle.asm_labels.specs.declared.saying.Said.{Said as Held}

@@ -1,5 +1,5 @@
 -- The labels of a text part, a line further.
-use Rattle.std.proofs.Common.{◌≡◌, ◌≢◌, ℕ, suc, ◌+◌, ◌<◌, ◌≤◌, ◌==◌, Bool, true, false, cond, List, [], ◌∷◌, ◌++◌, length, Option, Some, None, Contains, refl, sym, ap, subst, ◌∙◌, arith, append_assoc}
+use Rattle.std.proofs.Common.{◌≡◌, ◌≢◌, ℕ, suc, ◌+◌, ◌≤◌, ◌==◌, Bool, true, false, cond, List, [], ◌∷◌, ◌++◌, Option, Some, None, Contains, refl, sym, ap, subst, ◌∙◌, arith, append_assoc}
 use Rattle.std.proofs.lemmas.List.{append-nil}
 use Rattle.std.proofs.lemmas.List.Elements.{Contains-append_right}
 use Rattle.std.specs.List.{AllZip}
@@ -9,17 +9,17 @@ use Rattle.rtl_value.specs.declared.state.LabelAt.{LabelAt}
 use Rattle.md_rows.specs.declared.description.RawDescription.{RawDescription}
 use Rattle.asm_program.specs.declared.places.Part.{Part}
 use Rattle.asm_program.specs.declared.places.Part.TheVariants.{Outside, InText, InData}
-use Rattle.asm_program.specs.TextLines.{Label, Block, Symbol, Said, Nothing, Unreadable, TextBegins, DataBegins, Labelled, Mislabelled, Word, Byte, Space, Others, Says}
+use Rattle.asm_program.specs.TextLines.{Label, Symbol, Said, Labelled, Others, Says}
 use Rattle.asm_program.specs.Places.{Position, start, after, part_after, count_after}
-use Rattle.asm_program.specs.Rules.{AreSaid, Walks, word_bytes, is_in_place, instruction_limit}
+use Rattle.asm_program.specs.Rules.{AreSaid, Walks, word_bytes, is_in_place}
 use Rattle.asm_program.specs.Programs.{text_labels}
 use Rattle.asm_labels.specs.declared.saying.Label.TheVariants as heldlabel
 use Rattle.asm_labels.specs.declared.saying.Said.{Said as Held}
 use Rattle.asm_labels.specs.declared.saying.Said.TheVariants as held
-use Rattle.asm_labels.specs.Seen.{label_of, seen}
+use Rattle.asm_labels.specs.Seen.{seen}
 use Rattle.asm_labels.proofs.Opening.{Opens}
 use Rattle.asm_names.specs.LabelNames.{label_name, names_in, taken}
-use Rattle.asm_jumps.specs.LabelPlaces.{AddsLabel, HasNumber, HasNumberIn, IsAt, IsTextOf, counted}
+use Rattle.asm_jumps.specs.LabelPlaces.{AddsLabel, HasNumberIn, IsAt, IsTextOf, counted}
 
 pub record AreLabelsLeft (d : RawDescription) (n : Names) (all : List Said) (rest : List ℕ) (labels : List LabelAt) (count : ℕ) : Type 0 where
   pub left : List Said

@@ -1,5 +1,5 @@
 -- The first line of a text, and what it says.
-use Rattle.std.proofs.Common.{◌≡◌, ℕ, List, [], ◌∷◌, refl, sym, ap, subst, ◌∙◌}
+use Rattle.std.proofs.Common.{◌≡◌, ℕ, List, [], ◌∷◌, ap, subst}
 use Rattle.std.specs.List.{AllZip}
 use Rattle.asm_token.specs.Tokens.{Token}
 use Rattle.asm_line.specs.Walk.{IsLine}

@@ -1,10 +1,10 @@
 -- The label of a line has a C name.
-use Rattle.std.proofs.Common.{◌≡◌, ℕ, ◌==◌, ℤ, Bool, true, false, cond, MatchBool, List, [], ◌∷◌, refl, sym, ap, subst, ◌∙◌}
+use Rattle.std.proofs.Common.{◌≡◌, ℕ, ◌==◌, ℤ, Bool, true, false, cond, MatchBool, List, [], ◌∷◌, subst}
 use Rattle.std.specs.Prelude.{codes}
 use Rattle.std.specs.Str.{bytes_eq}
 use Rattle.asm_token.specs.Tokens.{Token, Name, Number, Mark}
 use Rattle.rtl_tree.specs.Names.{IsName}
-use Rattle.asm_program.specs.TextLines.{Label, Symbol, Said, TextBegins, DataBegins, Word, Byte, Space, Labelled, Others, Says, too_long, skipped, no_tokens, tokens, SaysLabel, SayTokens}
+use Rattle.asm_program.specs.TextLines.{Symbol, Said, TextBegins, DataBegins, Word, Byte, Space, Labelled, Others, Says, too_long, skipped, no_tokens, tokens, SaysLabel, SayTokens}
 
 module _ (s : List ℕ) where
   name_says : (a b : Bool) (x : Said) → (Labelled (Symbol s) ≡ x → ⊥) → Labelled (Symbol s) ≡ cond a TextBegins (cond b DataBegins x) → ⊥

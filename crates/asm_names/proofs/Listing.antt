@@ -1,10 +1,10 @@
 -- The names of labels that were met in a part, a line further.
-use Rattle.std.proofs.Common.{◌≡◌, ℕ, zero, suc, get_or, ◌+◌, ◌<◌, ◌≤◌, ◌⊎◌, inl, inr, true, List, [], ◌∷◌, ◌++◌, length, Option, Some, Contains, refl, sym, ap, subst, ◌∙◌, arith, append_assoc}
+use Rattle.std.proofs.Common.{◌≡◌, ℕ, zero, suc, get_or, ◌+◌, ◌<◌, ◌⊎◌, inl, inr, true, List, [], ◌∷◌, ◌++◌, Some, Contains, refl, sym, ap, subst, ◌∙◌, arith, append_assoc}
 use Rattle.std.proofs.lemmas.List.Elements.{Contains-append_cases}
 use Rattle.asm_program.specs.declared.places.Part.{Part}
 use Rattle.asm_program.specs.declared.places.Part.TheVariants.{Outside}
 use Rattle.asm_program.specs.declared.places.Place.{Place}
-use Rattle.asm_program.specs.TextLines.{Label, Symbol, Said, Labelled}
+use Rattle.asm_program.specs.TextLines.{Symbol, Said, Labelled}
 use Rattle.asm_program.specs.Places.{Position, after, part_after, symbols_on}
 use Rattle.asm_program.specs.Rules.{StandsAt}
 use Rattle.asm_names.specs.LabelNames.{label_name, names_in, taken}

@@ -1,5 +1,5 @@
 -- The names of a text's labels, a line further.
-use Rattle.std.proofs.Common.{◌≡◌, ◌≢◌, ℕ, ◌+◌, ◌<◌, ◌≤◌, true, List, [], ◌∷◌, ◌++◌, length, Option, Some, None, refl, sym, ap, subst, ◌∙◌, arith}
+use Rattle.std.proofs.Common.{◌≡◌, ℕ, ◌<◌, ◌≤◌, List, [], ◌∷◌, ◌++◌, length, Option, Some, None, refl, sym, ap, subst, ◌∙◌, arith}
 use Rattle.std.proofs.lemmas.List.{append-nil}
 use Rattle.std.specs.List.{AllZip}
 use Rattle.asm_token.specs.Tokens.{Token}
@@ -80,21 +80,25 @@ module _ (d : RawDescription) (all : List Said) (n : Names) where
   module _ (p : Position) (new : Names) where
     stay : (s : Said) (q : Part) (ss : List Said) → label_name s ≡ None → (new.objects ≡ n.objects) × (new.functions ≡ n.functions) → Both q (s ∷ ss) p n
         → Both (part_after q s) ss (after (word_bytes d) p s) new
-    stay s q ss e a b =
-        (listed_stays all (word_bytes d) p InText q s ss n.functions new.functions b.0 a.1 (ap (λ (o : Option (List ℕ)). taken InText q o (names_in InText (part_after q s) ss)) e)
-        , listed_stays all (word_bytes d) p InData q s ss n.objects new.objects b.1 a.0 (ap (λ (o : Option (List ℕ)). taken InData q o (names_in InData (part_after q s) ss)) e))
+    stay s q ss e a b = (
+      listed_stays all (word_bytes d) p InText q s ss n.functions new.functions b.0 a.1 (ap (λ (o : Option (List ℕ)). taken InText q o (names_in InText (part_after q s) ss)) e),
+      listed_stays all (word_bytes d) p InData q s ss n.objects new.objects b.1 a.0 (ap (λ (o : Option (List ℕ)). taken InData q o (names_in InData (part_after q s) ss)) e),
+    )
 
     add : (s : List ℕ) (q : Part) (ss : List Said) → Adds q (Some s) n new → StandsAt all (Symbol s) p.line → Both q (Labelled (Symbol s) ∷ ss) p n
         → Both (part_after q (Labelled (Symbol s))) ss (after (word_bytes d) p (Labelled (Symbol s))) new
-    add s InText ss a st b =
-        (listed_adds all (word_bytes d) p InText InText (Labelled (Symbol s)) ss n.functions new.functions b.0 s a.1 refl refl st
-        , listed_stays all (word_bytes d) p InData InText (Labelled (Symbol s)) ss n.objects new.objects b.1 a.0 refl)
-    add s InData ss a st b =
-        (listed_stays all (word_bytes d) p InText InData (Labelled (Symbol s)) ss n.functions new.functions b.0 a.1 refl
-        , listed_adds all (word_bytes d) p InData InData (Labelled (Symbol s)) ss n.objects new.objects b.1 s a.0 refl refl st)
-    add s Outside ss a st b =
-        (listed_stays all (word_bytes d) p InText Outside (Labelled (Symbol s)) ss n.functions new.functions b.0 a.1 refl
-        , listed_stays all (word_bytes d) p InData Outside (Labelled (Symbol s)) ss n.objects new.objects b.1 a.0 refl)
+    add s InText ss a st b = (
+      listed_adds all (word_bytes d) p InText InText (Labelled (Symbol s)) ss n.functions new.functions b.0 s a.1 refl refl st,
+      listed_stays all (word_bytes d) p InData InText (Labelled (Symbol s)) ss n.objects new.objects b.1 a.0 refl,
+    )
+    add s InData ss a st b = (
+      listed_stays all (word_bytes d) p InText InData (Labelled (Symbol s)) ss n.functions new.functions b.0 a.1 refl,
+      listed_adds all (word_bytes d) p InData InData (Labelled (Symbol s)) ss n.objects new.objects b.1 s a.0 refl refl st,
+    )
+    add s Outside ss a st b = (
+      listed_stays all (word_bytes d) p InText Outside (Labelled (Symbol s)) ss n.functions new.functions b.0 a.1 refl,
+      listed_stays all (word_bytes d) p InData Outside (Labelled (Symbol s)) ss n.objects new.objects b.1 a.0 refl,
+    )
 
     step : (y : Held) (q : Part) (ts : List Token) (ss : List Said) → Adds q (label_name (seen y ts)) n new → ((l : Label) → seen y ts ≡ Labelled l → StandsAt all l p.line)
         → Both q (seen y ts ∷ ss) p n → Both (part_after q (seen y ts)) ss (after (word_bytes d) p (seen y ts)) new
@@ -115,7 +119,7 @@ module _ (d : RawDescription) (all : List Said) (n : Names) where
   names_more line rest behind x part next new a o adds e =
       let w = walked line rest behind x part a o in
       let both = step a.position new x part o.tokens o.behind (adds o.tokens) w.0.first
-          (subst (λ (ss : List Said). Both part ss a.position n) o.are (a.functions, a.objects)) in
+      (subst (λ (ss : List Said). Both part ss a.position n) o.are (a.functions, a.objects)) in
       let part_is : part_after part (seen x o.tokens) ≡ next = sym (e o.tokens) in
       record {
         left = o.behind;

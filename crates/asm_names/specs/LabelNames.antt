@@ -5,7 +5,7 @@ use Rattle.rtl_tree.specs.declared.c_names.Names.{Names}
 use Rattle.md_rows.specs.declared.description.RawDescription.{RawDescription}
 use Rattle.asm_program.specs.declared.places.Part.{Part}
 use Rattle.asm_program.specs.declared.places.Part.TheVariants.{Outside, InText, InData}
-use Rattle.asm_program.specs.TextLines.{Label, Symbol, Said, Labelled}
+use Rattle.asm_program.specs.TextLines.{Symbol, Said, Labelled}
 use Rattle.asm_program.specs.Places.{part_after}
 use Rattle.asm_program.specs.Rules.{AreSaid, IsSound}
 

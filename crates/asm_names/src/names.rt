@@ -42,12 +42,7 @@ fn with_new(alloc: Global, names: Names, part: Part, name: &[u8]) -> Result<Name
     }
 }
 
-fn with_label(
-    alloc: Global,
-    names: Names,
-    part: Part,
-    label: Label<'_>,
-) -> Result<Names, NoMemory>
+fn with_label(alloc: Global, names: Names, part: Part, label: Label<'_>) -> Result<Names, NoMemory>
     requires new { CanAdd names (label_name (Labelled (label_of label))) }
     ensures { IfOk result (λ more. Adds part (label_name (Labelled (label_of label.entry))) names more) }
 {
@@ -57,12 +52,7 @@ fn with_label(
     }
 }
 
-fn with_said(
-    alloc: Global,
-    names: Names,
-    part: Part,
-    said: Said<'_>,
-) -> Result<Names, NoMemory>
+fn with_said(alloc: Global, names: Names, part: Part, said: Said<'_>) -> Result<Names, NoMemory>
     requires new { (ts : List Token) → CanAdd names (label_name (seen said ts)) }
     ensures { IfOk result (λ more. (ts : List Token) → Adds part (label_name (seen said.entry ts)) names more) }
 {

@@ -1,6 +1,6 @@
 use Rattle.asm_line.proofs.Walking.{empty_text}
 use Rattle.asm_labels.proofs.Opening.{opens}
-use Rattle.asm_instances.proofs.LinesLeft.{at_start, known_line, lines_more, at_end}
+use Rattle.asm_instances.proofs.LinesLeft.{known_line, lines_more, at_end}
 use Rattle.asm_instances.proofs.lines.lines_of.Goals as goal
 
 pub with_line-requires-clause-known : goal.with_line-requires-clause-known

@@ -12,4 +12,5 @@ pub mod Made
 pub mod Among
 pub mod Rows
 pub mod Growing
+pub mod FoundOnce
 pub mod LineRead

@@ -23,3 +23,6 @@ mod writing;
 pub use line::LineBuf;
 pub use lines::{LineFault, read_line};
 pub use printing::print_line;
+pub use reading::{Values, find_row};
+pub use tokens::{Next, are_tokens, next_token};
+pub use values::{Value, block_in, symbol_in};

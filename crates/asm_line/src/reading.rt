@@ -21,7 +21,7 @@ use md_rows::{Hole, Piece, RawDescription, Row};
 use rtl_tree::{Assign, Cell, Place};
 
 /// What stands in each hole of a row.
-pub(crate) type Values<'a> = ArrayVec<Value<'a>, 8>;
+pub type Values<'a> = ArrayVec<Value<'a>, 8>;
 
 fn is_fixed(piece: &Piece, token: Token<'_>) -> bool
     ensures { IsTrue result ↔ IsFixed piece.now (token_of token.entry) }
@@ -179,7 +179,7 @@ fn read_row<'a>(d: &RawDescription, row: &Row, text: &'a [u8]) -> Option<Values<
 }
 
 /// The row of which a text is a line, and what stands in the row's holes.
-pub(crate) fn find_row<'a>(d: &RawDescription, text: &'a [u8]) -> Option<(u16, Values<'a>)>
+pub fn find_row<'a>(d: &RawDescription, text: &'a [u8]) -> Option<(u16, Values<'a>)>
     requires readable { IsReadable d.now }
     ensures { (ts : List SpecToken) → IsLine text.now ts → MatchOption result (NoRow d.now ts) (λ r. IsFound d.now ts r.0 (values_of r.1.items)) }
 {

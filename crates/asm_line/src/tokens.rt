@@ -9,7 +9,7 @@ use asm_token::token::{Token, token_at};
 
 /// What a text begins with, blanks and tabs aside.
 #[derive(Clone, Copy, Debug, PartialEq, Eq)]
-pub(crate) enum Next<'a> {
+pub enum Next<'a> {
     End,
     Bad,
     /// A token, and the text behind it.
@@ -41,14 +41,14 @@ fn first_token(text: &[u8]) -> Next<'_>
 }
 
 /// The first token of a text.
-pub(crate) fn next_token(text: &[u8]) -> Next<'_>
+pub fn next_token(text: &[u8]) -> Next<'_>
     ensures { IsNext text.now result }
 {
     first_token(&text[gap_length(text)..])
 }
 
 /// Whether a text has tokens and blanks and tabs alone.
-pub(crate) fn are_tokens(text: &[u8]) -> bool
+pub fn are_tokens(text: &[u8]) -> bool
     ensures { IsTrue result ↔ LineOf text.now }
 {
     let (_, mut rest) = text.split_at(0);

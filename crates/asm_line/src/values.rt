@@ -18,7 +18,7 @@ use rtl_tree::is_name;
 
 /// What stands in a hole. An object or a function is told by its name.
 #[derive(Clone, Copy, Debug, PartialEq, Eq)]
-pub(crate) enum Value<'a> {
+pub enum Value<'a> {
     Register(u8),
     Number(u32),
     Object(&'a [u8]),
@@ -196,7 +196,8 @@ fn number_in(text: &[u8]) -> Option<u32>
     }
 }
 
-fn block_in(name: &[u8]) -> Option<u32>
+/// The number of a block, of which a name is the label.
+pub fn block_in(name: &[u8]) -> Option<u32>
     ensures { MatchOption result ((b : ℕ) → IsBlockName name.now b → ⊥) (λ b. IsBlockName name.now b) }
 {
     match name {
@@ -205,7 +206,8 @@ fn block_in(name: &[u8]) -> Option<u32>
     }
 }
 
-fn symbol_in(name: &[u8]) -> Option<&[u8]>
+/// The C name that a name is behind an underscore.
+pub fn symbol_in(name: &[u8]) -> Option<&[u8]>
     ensures { MatchOption result ((s : List ℕ) → IsSymbolOf name.now s → ⊥) (λ s. IsSymbolOf name.now s.now) }
 {
     match name {

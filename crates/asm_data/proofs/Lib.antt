@@ -1,0 +1,4 @@
+pub mod Ahead
+pub mod Reach
+pub mod Ranges
+pub mod DataLines

@@ -1,0 +1,4 @@
+pub mod LabelLines
+pub mod Membership
+pub mod Listing
+pub mod NamesLeft

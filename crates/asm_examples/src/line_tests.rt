@@ -34,7 +34,11 @@ fn reads<W: Word>(alloc: Global, m: &Checked<W>, line: &str, answer: Answer) -> 
 }
 
 // The first of these lines for which reading answers something else.
-fn first_misread<W: Word>(alloc: Global, m: &Checked<W>, cases: &[LineCase]) -> Option<&'static str> {
+fn first_misread<W: Word>(
+    alloc: Global,
+    m: &Checked<W>,
+    cases: &[LineCase],
+) -> Option<&'static str> {
     for (line, answer) in cases {
         if !reads::<W>(alloc, m, line, *answer) {
             return Some(*line);

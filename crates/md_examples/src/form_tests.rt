@@ -72,7 +72,10 @@ const LINES: [(&str, Expected); 12] = [
     ("memory 9999999999", Expected::MemorySize(9_999_999_999)),
     ("data 0", Expected::DataBegin(0)),
     ("stack -1", Expected::StackSize(-1)),
-    ("reg 31 $ra link", Expected::Register(31, b"$ra", Role::Link)),
+    (
+        "reg 31 $ra link",
+        Expected::Register(31, b"$ra", Role::Link),
+    ),
     ("flag 7 Z", Expected::Flag(7, b"Z")),
     ("class r r0 $1 r0", Expected::Class(b"r", &REGISTERS)),
     (

@@ -34,12 +34,24 @@ fn becomes(alloc: Global, tree: &Expr, expected: &Expr) -> bool {
 #[test]
 fn each_hole_has_its_value(rt: HostRuntime) {
     let alloc = rt.alloc();
-    assert!(rt; becomes(alloc, &Expr::Cell(Cell::Hole(0)), &Expr::Cell(Cell::Hard(3))));
+    assert!(rt;
+        becomes(
+            alloc,
+            &Expr::Cell(Cell::Hole(0)),
+            &Expr::Cell(Cell::Hard(3))
+        )
+    );
     assert!(rt; becomes(alloc, &Expr::NumHole(1), &Expr::Num(8)));
     assert!(rt; becomes(alloc, &Expr::NameHole(2), &Expr::Sym(2)));
     assert!(rt; becomes(alloc, &Expr::NameHole(3), &Expr::Label(Lab::Block(5))));
     assert!(rt; becomes(alloc, &Expr::NumHole(8), &Expr::NumHole(8)));
-    assert!(rt; becomes(alloc, &Expr::Cell(Cell::Flag(0)), &Expr::Cell(Cell::Flag(0))));
+    assert!(rt;
+        becomes(
+            alloc,
+            &Expr::Cell(Cell::Flag(0)),
+            &Expr::Cell(Cell::Flag(0))
+        )
+    );
 }
 
 // `(<0> + <1>)`

@@ -2,8 +2,8 @@
 
 use asm_token::token::Token;
 use md_lines::{
-    Kind, Line, Lines, Piece, Range, Slot, before_word, is_name, number, read_lines, read_names, read_pieces,
-    role, split_at_bar,
+    Kind, Line, Lines, Piece, Range, Slot, before_word, is_name, number, read_lines, read_names,
+    read_pieces, role, split_at_bar,
 };
 use md_match::{fits, fits_at};
 use md_rows::{Bound, Hole, RawDescription, Role, number_of_word};

@@ -2,29 +2,33 @@
 
 use crate::accepted::{accepted_32, mips, pdp11};
 use crate::cases::{Case, MIPS_CASES, PDP11_CASES, TRI_CASES};
-use crate::line_cases::{Answer, LineCase, MIPS_LINES, PDP11_LINES};
+use crate::line_cases::{
+    LineCase, MIPS_LINES, MIPS_STRANGE, PDP11_BROKEN, PDP11_LINES, PDP11_STRANGE,
+};
 use crate::telling::line_of;
 use asm_line::{LineFault, read_line};
 use md_check::Checked;
 use md_examples::machines::tri;
-use md_rows::{Instance, RawDescription};
+use md_rows::{Bound, Instance, RawDescription};
 use rtl_tree::{NameList, Names};
 use rtl_word::Word;
 use std::alloc::Global;
 
-fn is_read(d: &RawDescription, read: &Result<Instance, LineFault>, answer: Answer) -> bool {
+// The line of the row that a line is of and what stands in the row's holes, or why it is no line.
+type Answer<'a> = Result<(u32, &'a [Bound]), LineFault>;
+
+fn is_read(d: &RawDescription, read: &Result<Instance, LineFault>, answer: Answer<'_>) -> bool {
     match (read, answer) {
-        (Ok(instance), Answer::Row(line, bounds)) => {
+        (Ok(instance), Ok((line, bounds))) => {
             line_of(d, instance.row) == line && instance.binding.list.as_slice() == bounds
         }
-        (Err(LineFault::BadToken), Answer::BadToken) => true,
-        (Err(LineFault::NoRow), Answer::NoRow) => true,
+        (Err(fault), Err(expected)) => *fault == expected,
         _ => false,
     }
 }
 
 // Whether reading a line answers this, where no name is known.
-fn reads<W: Word>(alloc: Global, m: &Checked<W>, line: &str, answer: Answer) -> bool {
+fn reads<W: Word>(alloc: Global, m: &Checked<W>, line: &str, answer: Answer<'_>) -> bool {
     let mut names = Names {
         objects: NameList::new(alloc),
         functions: NameList::new(alloc),
@@ -33,14 +37,29 @@ fn reads<W: Word>(alloc: Global, m: &Checked<W>, line: &str, answer: Answer) -> 
     is_read(m.raw(), &read, answer)
 }
 
-// The first of these lines for which reading answers something else.
+// The first of these lines that isn't read as told.
 fn first_misread<W: Word>(
     alloc: Global,
     m: &Checked<W>,
     cases: &[LineCase],
 ) -> Option<&'static str> {
-    for (line, answer) in cases {
-        if !reads::<W>(alloc, m, line, *answer) {
+    for (text, line, bounds) in cases {
+        if !reads::<W>(alloc, m, text, Ok((*line, *bounds))) {
+            return Some(*text);
+        }
+    }
+    None
+}
+
+// The first of these lines that isn't refused for this reason.
+fn first_read<W: Word>(
+    alloc: Global,
+    m: &Checked<W>,
+    lines: &[&'static str],
+    fault: LineFault,
+) -> Option<&'static str> {
+    for line in lines {
+        if !reads::<W>(alloc, m, line, Err(fault)) {
             return Some(*line);
         }
     }
@@ -51,45 +70,44 @@ fn first_misread<W: Word>(
 fn first_unlike<W: Word>(alloc: Global, m: &Checked<W>, cases: &[Case]) -> Option<&'static str> {
     for (_, _, line, bounds, printed) in cases {
         let is_printed = !printed.is_empty();
-        if is_printed && !reads::<W>(alloc, m, printed, Answer::Row(*line, *bounds)) {
+        if is_printed && !reads::<W>(alloc, m, printed, Ok((*line, *bounds))) {
             return Some(*printed);
         }
     }
     None
 }
 
-fn misread_of_pdp11(alloc: Global) -> Option<&'static str> {
-    let Some(m) = pdp11(alloc) else {
-        return Some("pdp11");
-    };
-    let misread = first_misread(alloc, &*m, &PDP11_LINES);
-    if misread.is_some() {
-        return misread;
-    }
-    first_unlike(alloc, &*m, &PDP11_CASES)
-}
-
-fn misread_of_mips(alloc: Global) -> Option<&'static str> {
-    let Some(m) = mips(alloc) else {
-        return Some("mips");
-    };
-    let misread = first_misread(alloc, &*m, &MIPS_LINES);
-    if misread.is_some() {
-        return misread;
-    }
-    first_unlike(alloc, &*m, &MIPS_CASES)
-}
-
-fn misread_of_tri(alloc: Global) -> Option<&'static str> {
-    let Some(m) = accepted_32(alloc, tri()) else {
-        return Some("tri");
-    };
-    first_unlike(alloc, &*m, &TRI_CASES)
+#[test]
+fn lines_of_the_pdp11(rt: HostRuntime) {
+    let alloc = rt.alloc();
+    let m = pdp11(alloc).expect(&rt, "the pdp11");
+    assert_eq!(rt; first_misread(alloc, &*m, &PDP11_LINES), None);
+    assert_eq!(rt;
+        first_read(alloc, &*m, &PDP11_STRANGE, LineFault::NoRow),
+        None
+    );
+    assert_eq!(rt;
+        first_read(alloc, &*m, &PDP11_BROKEN, LineFault::BadToken),
+        None
+    );
+    assert_eq!(rt; first_unlike(alloc, &*m, &PDP11_CASES), None);
 }
 
 #[test]
-fn lines(rt: HostRuntime) {
-    assert_eq!(rt; misread_of_pdp11(rt.alloc()), None);
-    assert_eq!(rt; misread_of_mips(rt.alloc()), None);
-    assert_eq!(rt; misread_of_tri(rt.alloc()), None);
+fn lines_of_the_mips(rt: HostRuntime) {
+    let alloc = rt.alloc();
+    let m = mips(alloc).expect(&rt, "the mips");
+    assert_eq!(rt; first_misread(alloc, &*m, &MIPS_LINES), None);
+    assert_eq!(rt;
+        first_read(alloc, &*m, &MIPS_STRANGE, LineFault::NoRow),
+        None
+    );
+    assert_eq!(rt; first_unlike(alloc, &*m, &MIPS_CASES), None);
+}
+
+#[test]
+fn lines_of_our_own_machine(rt: HostRuntime) {
+    let alloc = rt.alloc();
+    let m = accepted_32(alloc, tri()).expect(&rt, "tri");
+    assert_eq!(rt; first_unlike(alloc, &*m, &TRI_CASES), None);
 }

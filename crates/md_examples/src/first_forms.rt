@@ -98,10 +98,10 @@ fn descriptions_are_read(rt: HostRuntime) {
 
 #[test]
 fn variants_are_refused(rt: HostRuntime) {
-    for (part, other) in REFUSED {
+    for (part, other) in &REFUSED {
         assert!(rt; is_refused_with(rt.alloc(), TINY, part, other), "{other}");
     }
-    for (part, other) in REFUSED_WIDE {
+    for (part, other) in &REFUSED_WIDE {
         assert!(rt; is_refused_with(rt.alloc(), WIDE, part, other), "{other}");
     }
 }
@@ -191,10 +191,10 @@ fn refuses_calls(alloc: Global, count: usize) -> bool {
 
 #[test]
 fn sources_are_read_or_refused(rt: HostRuntime) {
-    for (text, calls, status) in SOURCES {
-        assert!(rt; reads(rt.alloc(), text, calls, status), "status {status}");
+    for (text, calls, status) in &SOURCES {
+        assert!(rt; reads(rt.alloc(), text, calls, *status), "status {status}");
     }
-    for text in REFUSED_SOURCES {
+    for text in &REFUSED_SOURCES {
         assert!(rt; refuses(rt.alloc(), text));
     }
     assert!(rt; reads_calls(rt.alloc(), 1000));

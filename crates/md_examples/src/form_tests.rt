@@ -65,30 +65,30 @@ const BRANCH: [Part; 5] = [
 
 const REGISTERS: [&[u8]; 3] = [b"r0", b"$1", b"r0"];
 
-const LINES: [(&str, Expected); 12] = [
-    ("vpo 1", Expected::Version),
-    ("name _a.b$9", Expected::MachineName(b"_a.b$9")),
-    ("word 16", Expected::WordBits(16)),
-    ("memory 9999999999", Expected::MemorySize(9_999_999_999)),
-    ("data 0", Expected::DataBegin(0)),
-    ("stack -1", Expected::StackSize(-1)),
+const LINES: [(&str, &Expected); 12] = [
+    ("vpo 1", &Expected::Version),
+    ("name _a.b$9", &Expected::MachineName(b"_a.b$9")),
+    ("word 16", &Expected::WordBits(16)),
+    ("memory 9999999999", &Expected::MemorySize(9_999_999_999)),
+    ("data 0", &Expected::DataBegin(0)),
+    ("stack -1", &Expected::StackSize(-1)),
     (
         "reg 31 $ra link",
-        Expected::Register(31, b"$ra", Role::Link),
+        &Expected::Register(31, b"$ra", Role::Link),
     ),
-    ("flag 7 Z", Expected::Flag(7, b"Z")),
-    ("class r r0 $1 r0", Expected::Class(b"r", &REGISTERS)),
+    ("flag 7 Z", &Expected::Flag(7, b"Z")),
+    ("class r r0 $1 r0", &Expected::Class(b"r", &REGISTERS)),
     (
         "mode index | -2 (<x:r>) <n:!-8..7> | M[(<n> + <x>)]",
-        Expected::IndexMode(b"index", &INDEX),
+        &Expected::IndexMode(b"index", &INDEX),
     ),
     (
         "row add <s:a>,<d:r> | <d> = (<d> + <s>); f[3] = lost",
-        Expected::AddRow(&ADD),
+        &Expected::AddRow(&ADD),
     ),
     (
         "row _b<k:word> <t:label>+<v:sym> | PC = ((<v> eq -1) -> <t>)",
-        Expected::BranchRow(&BRANCH),
+        &Expected::BranchRow(&BRANCH),
     ),
 ];
 
@@ -271,8 +271,8 @@ fn says(alloc: Global, line: &[u8], expected: Expected) -> bool {
 
 #[test]
 fn lines(rt: HostRuntime) {
-    for (line, expected) in LINES {
-        assert!(rt; says(rt.alloc(), line.as_bytes(), expected), "{line}");
+    for (line, expected) in &LINES {
+        assert!(rt; says(rt.alloc(), line.as_bytes(), **expected), "{line}");
     }
     assert!(rt; matches!(read_form(rt.alloc(), 16, b""), Err(FormFault::NoForm)));
 }

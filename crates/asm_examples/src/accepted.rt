@@ -1,8 +1,8 @@
 //! The pdp11 and the mips, accepted once for a test.
 //!
-//! Tests are cheap to prove where little is alive at each way out of a function: a table is a constant of plain literals, one helper judges
-//! one row of it by reference and answers a `bool`, and what is owned is a box that one `let .. else` makes. A function that takes the
-//! accepted machine by reference, or its box, has no enum to match.
+//! A test is cheap to prove where little is alive wherever a function may end. So tables are constants of flat rows of literals, gone over by
+//! reference; one helper judges a row and answers a `bool`; and a machine is a box, which a test has by `pdp11(alloc).expect(&rt, "..")` and
+//! hands on as `&*machine`.
 
 use md_check::Checked;
 use md_verdict::{Accepted, accept};

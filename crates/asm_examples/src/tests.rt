@@ -55,16 +55,27 @@ fn tells<W: Word>(alloc: Global, names: &Names, m: &Checked<W>, case: &Case) -> 
 }
 
 // The first of these transfers for which something else is told.
-fn first_untold<W: Word>(alloc: Global, m: &Checked<W>, cases: &[Case]) -> Option<&'static str> {
-    let Ok(names) = names(alloc) else {
-        return Some("names");
-    };
+fn first_untold_by<W: Word>(
+    alloc: Global,
+    names: &Names,
+    m: &Checked<W>,
+    cases: &[Case],
+) -> Option<&'static str>
+    requires { AreApart names.now.objects names.now.functions }
+{
     for case in cases {
-        if !tells::<W>(alloc, &names, m, case) {
+        if !tells::<W>(alloc, names, m, case) {
             return Some(case.0);
         }
     }
     None
+}
+
+fn first_untold<W: Word>(alloc: Global, m: &Checked<W>, cases: &[Case]) -> Option<&'static str> {
+    let Ok(names) = names(alloc) else {
+        return Some("names");
+    };
+    first_untold_by::<W>(alloc, &names, m, cases)
 }
 
 fn untold_of_pdp11(alloc: Global) -> Option<&'static str> {
@@ -212,7 +223,10 @@ fn is_none_told<W: Word>(alloc: Global, m: &Checked<W>, transfer: &Effects) -> b
     let Ok(names) = names(alloc) else {
         return false;
     };
-    matches!(told_by::<W>(alloc, m, transfer, &names, 0), Ok(None))
+    let Ok(told) = told_by::<W>(alloc, m, transfer, &names, 0) else {
+        return false;
+    };
+    told.is_none()
 }
 
 fn tri_tells_none(alloc: Global, transfer: &Effects) -> bool {

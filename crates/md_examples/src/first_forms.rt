@@ -96,14 +96,33 @@ fn descriptions_are_read(rt: HostRuntime) {
     assert!(rt; reads_wide(rt.alloc()));
 }
 
+// What stands in the first of these variants that isn't refused.
+fn first_accepted(
+    alloc: Global,
+    text: &str,
+    variants: &[(&'static str, &'static str)],
+) -> Option<&'static str> {
+    for (part, other) in variants {
+        if !is_refused_with(alloc, text, part, other) {
+            return Some(*other);
+        }
+    }
+    None
+}
+
+// Each table stands in a function of its own, with nothing else: a long constant makes each step of a proof longer.
+fn accepted_of_tiny(alloc: Global) -> Option<&'static str> {
+    first_accepted(alloc, TINY, &REFUSED)
+}
+
+fn accepted_of_wide(alloc: Global) -> Option<&'static str> {
+    first_accepted(alloc, WIDE, &REFUSED_WIDE)
+}
+
 #[test]
 fn variants_are_refused(rt: HostRuntime) {
-    for (part, other) in &REFUSED {
-        assert!(rt; is_refused_with(rt.alloc(), TINY, part, other), "{other}");
-    }
-    for (part, other) in &REFUSED_WIDE {
-        assert!(rt; is_refused_with(rt.alloc(), WIDE, part, other), "{other}");
-    }
+    assert_eq!(rt; accepted_of_tiny(rt.alloc()), None);
+    assert_eq!(rt; accepted_of_wide(rt.alloc()), None);
 }
 
 const SOURCES: [(&[u8], &[u16], u16); 6] = [
@@ -189,14 +208,31 @@ fn refuses_calls(alloc: Global, count: usize) -> bool {
     refuses(alloc, &text)
 }
 
+fn all_are_read(alloc: Global, sources: &[(&[u8], &[u16], u16)]) -> bool {
+    for (text, calls, status) in sources {
+        if !reads(alloc, text, calls, *status) {
+            return false;
+        }
+    }
+    true
+}
+
+fn sources_are_read(alloc: Global) -> bool {
+    all_are_read(alloc, &SOURCES)
+}
+
+fn all_are_refused(alloc: Global, sources: &[&[u8]]) -> bool {
+    sources.iter().all(|text| refuses(alloc, text))
+}
+
+fn sources_are_refused(alloc: Global) -> bool {
+    all_are_refused(alloc, &REFUSED_SOURCES)
+}
+
 #[test]
 fn sources_are_read_or_refused(rt: HostRuntime) {
-    for (text, calls, status) in &SOURCES {
-        assert!(rt; reads(rt.alloc(), text, calls, *status), "status {status}");
-    }
-    for text in &REFUSED_SOURCES {
-        assert!(rt; refuses(rt.alloc(), text));
-    }
+    assert!(rt; sources_are_read(rt.alloc()));
+    assert!(rt; sources_are_refused(rt.alloc()));
     assert!(rt; reads_calls(rt.alloc(), 1000));
     assert!(rt; refuses_calls(rt.alloc(), 1001), "1,001 calls");
 }

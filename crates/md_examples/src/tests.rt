@@ -174,13 +174,29 @@ fn first_untold_of(
     None
 }
 
+// Each table stands in a function of its own, with nothing else: a long constant makes each step of a proof longer.
+fn untold_lines(alloc: Global) -> Option<&'static str> {
+    first_untold_of(alloc, duo(), &DUO_LINES)
+}
+
+fn untold_rows(alloc: Global) -> Option<&'static str> {
+    first_untold_of(alloc, duo(), &DUO_ROWS)
+}
+
+fn untold_shapes(alloc: Global) -> Option<&'static str> {
+    first_untold_of(alloc, duo(), &DUO_SHAPES)
+}
+
+fn untold_of_tri(alloc: Global) -> Option<&'static str> {
+    first_untold_of(alloc, tri(), &TRI_EDITS)
+}
+
 #[test]
 fn each_rule_is_told(rt: HostRuntime) {
-    let alloc = rt.alloc();
-    assert_eq!(rt; first_untold_of(alloc, duo(), &DUO_LINES), None);
-    assert_eq!(rt; first_untold_of(alloc, duo(), &DUO_ROWS), None);
-    assert_eq!(rt; first_untold_of(alloc, duo(), &DUO_SHAPES), None);
-    assert_eq!(rt; first_untold_of(alloc, tri(), &TRI_EDITS), None);
+    assert_eq!(rt; untold_lines(rt.alloc()), None);
+    assert_eq!(rt; untold_rows(rt.alloc()), None);
+    assert_eq!(rt; untold_shapes(rt.alloc()), None);
+    assert_eq!(rt; untold_of_tri(rt.alloc()), None);
 }
 
 // Whether a text is accepted and has so many rows.
@@ -215,12 +231,31 @@ fn first_unheeded(alloc: Global, machine: &[u8], advice: &[Advice]) -> Option<&'
     None
 }
 
+// What stands in the first of these edits of a machine that isn't accepted.
+fn first_unmended(alloc: Global, machine: &[u8], mends: &[Mend]) -> Option<&'static str> {
+    for mend in mends {
+        if !is_mended(alloc, machine, mend) {
+            return Some(mend.2);
+        }
+    }
+    None
+}
+
+fn unmended(alloc: Global) -> Option<&'static str> {
+    first_unmended(alloc, duo(), &DUO_ACCEPTED)
+}
+
+fn unheeded_of_duo(alloc: Global) -> Option<&'static str> {
+    first_unheeded(alloc, duo(), &DUO_ADVICE)
+}
+
+fn unheeded_of_tri(alloc: Global) -> Option<&'static str> {
+    first_unheeded(alloc, tri(), &TRI_ADVICE)
+}
+
 #[test]
 fn advice_to_porters(rt: HostRuntime) {
-    let alloc = rt.alloc();
-    for mend in &DUO_ACCEPTED {
-        assert!(rt; is_mended(alloc, duo(), mend), "{}", mend.2);
-    }
-    assert_eq!(rt; first_unheeded(alloc, duo(), &DUO_ADVICE), None);
-    assert_eq!(rt; first_unheeded(alloc, tri(), &TRI_ADVICE), None);
+    assert_eq!(rt; unmended(rt.alloc()), None);
+    assert_eq!(rt; unheeded_of_duo(rt.alloc()), None);
+    assert_eq!(rt; unheeded_of_tri(rt.alloc()), None);
 }

@@ -286,8 +286,12 @@ fn unsaid(alloc: Global) -> Option<&'static str> {
     first_unsaid(alloc, &LINES)
 }
 
+fn empty_has_no_form(alloc: Global) -> bool {
+    matches!(read_form(alloc, 16, b""), Err(FormFault::NoForm))
+}
+
 #[test]
 fn lines(rt: HostRuntime) {
     assert_eq!(rt; unsaid(rt.alloc()), None);
-    assert!(rt; matches!(read_form(rt.alloc(), 16, b""), Err(FormFault::NoForm)));
+    assert!(rt; empty_has_no_form(rt.alloc()));
 }

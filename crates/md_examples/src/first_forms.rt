@@ -2,9 +2,9 @@
 
 use first_path::assembly::write_assembly;
 use first_path::description::{DescriptionFault, read_description};
-use first_path::source::{SourceFault, read_source};
+use first_path::source::{SourceFault, SourceProgram, read_source};
+use md_rows::RawDescription;
 use std::alloc::{AllocError, Global};
-use std::test::Fail;
 
 const TINY: &str =
     "vpo 1\nname tiny\nword 16\nmemory 4096\ndata 64\nstack 1024\nreg 0 a result\nrow set <n:word>,a | r[0] = <n>\nrow put | OUT = r[0]\nrow end | HALT = r[0]\n";
@@ -55,41 +55,74 @@ const REFUSED_WIDE: [(&str, &str); 6] = [
     ("stack 65536", "stack 1048580"),
 ];
 
-// Whether the text is refused where the other part stands in it.
-fn is_refused(alloc: Global, text: &str, part: &str, other: &str) -> Result<bool, AllocError> {
-    let changed = text.replacen(alloc, part, other, 1)?;
-    Ok(matches!(
-        read_description(alloc, changed.as_bytes()),
+fn is_refused(alloc: Global, text: &str) -> bool {
+    matches!(
+        read_description(alloc, text.as_bytes()),
         Err(DescriptionFault::Refused)
-    ))
+    )
+}
+
+// Whether the text is refused where the other part stands in it.
+fn is_refused_with(alloc: Global, text: &str, part: &str, other: &str) -> bool {
+    let Ok(changed) = text.replacen(alloc, part, other, 1) else {
+        return false;
+    };
+    is_refused(alloc, &changed)
+}
+
+fn is_tiny(d: &RawDescription) -> bool {
+    d.name.as_slice() == b"tiny".as_slice()
+        && (d.word, d.memory, d.base, d.stack) == (16, 4096, 64, 1024)
+        && (d.registers.len(), d.rows.len(), d.last) == (1, 3, 10)
+}
+
+fn reads_tiny(alloc: Global) -> bool {
+    let Ok(tiny) = read_description(alloc, TINY.as_bytes()) else {
+        return false;
+    };
+    is_tiny(&tiny)
+}
+
+fn reads_wide(alloc: Global) -> bool {
+    let Ok(wide) = read_description(alloc, WIDE.as_bytes()) else {
+        return false;
+    };
+    wide.word == 32 && wide.memory == 16_777_216
 }
 
 #[test]
-fn descriptions_are_read(rt: HostRuntime) -> Result<(), Fail> {
-    let tiny = read_description(rt.alloc(), TINY.as_bytes())?;
-    assert_eq!(rt; tiny.name.as_slice(), b"tiny".as_slice());
-    assert_eq!(rt;
-        (tiny.word, tiny.memory, tiny.base, tiny.stack),
-        (16, 4096, 64, 1024)
-    );
-    assert_eq!(rt;
-        (tiny.registers.len(), tiny.rows.len(), tiny.last),
-        (1, 3, 10)
-    );
-    let wide = read_description(rt.alloc(), WIDE.as_bytes())?;
-    assert_eq!(rt; (wide.word, wide.memory), (32, 16_777_216));
-    Ok(())
+fn descriptions_are_read(rt: HostRuntime) {
+    assert!(rt; reads_tiny(rt.alloc()));
+    assert!(rt; reads_wide(rt.alloc()));
+}
+
+// What stands in the first of these variants that isn't refused.
+fn first_accepted(
+    alloc: Global,
+    text: &str,
+    variants: &[(&'static str, &'static str)],
+) -> Option<&'static str> {
+    for (part, other) in variants {
+        if !is_refused_with(alloc, text, part, other) {
+            return Some(*other);
+        }
+    }
+    None
+}
+
+// Each table stands in a function of its own, with nothing else: a long constant makes each step of a proof longer.
+fn accepted_of_tiny(alloc: Global) -> Option<&'static str> {
+    first_accepted(alloc, TINY, &REFUSED)
+}
+
+fn accepted_of_wide(alloc: Global) -> Option<&'static str> {
+    first_accepted(alloc, WIDE, &REFUSED_WIDE)
 }
 
 #[test]
-fn variants_are_refused(rt: HostRuntime) -> Result<(), Fail> {
-    for (part, other) in REFUSED {
-        assert!(rt; is_refused(rt.alloc(), TINY, part, other)?, "{other}");
-    }
-    for (part, other) in REFUSED_WIDE {
-        assert!(rt; is_refused(rt.alloc(), WIDE, part, other)?, "{other}");
-    }
-    Ok(())
+fn variants_are_refused(rt: HostRuntime) {
+    assert_eq!(rt; accepted_of_tiny(rt.alloc()), None);
+    assert_eq!(rt; accepted_of_wide(rt.alloc()), None);
 }
 
 const SOURCES: [(&[u8], &[u16], u16); 6] = [
@@ -133,10 +166,10 @@ const REFUSED_SOURCES: [&[u8]; 16] = [
 ];
 
 fn reads(alloc: Global, text: &[u8], calls: &[u16], status: u16) -> bool {
-    match read_source(alloc, text) {
-        Ok(program) => *program.calls.as_slice() == *calls && program.status == status,
-        Err(_) => false,
-    }
+    let Ok(program) = read_source(alloc, text) else {
+        return false;
+    };
+    program.calls.as_slice() == calls && program.status == status
 }
 
 fn refuses(alloc: Global, text: &[u8]) -> bool {
@@ -153,31 +186,77 @@ fn with_calls(alloc: Global, count: usize) -> Result<Vec<u8>, AllocError> {
     Ok(text)
 }
 
-#[test]
-fn sources_are_read_or_refused(rt: HostRuntime) -> Result<(), Fail> {
-    for (text, calls, status) in SOURCES {
-        assert!(rt; reads(rt.alloc(), text, calls, status), "status {status}");
+// How many calls are read of a source.
+fn calls_in(alloc: Global, text: &[u8]) -> Option<usize> {
+    let Ok(program) = read_source(alloc, text) else {
+        return None;
+    };
+    Some(program.calls.len())
+}
+
+fn reads_calls(alloc: Global, count: usize) -> bool {
+    let Ok(text) = with_calls(alloc, count) else {
+        return false;
+    };
+    calls_in(alloc, &text) == Some(count)
+}
+
+fn refuses_calls(alloc: Global, count: usize) -> bool {
+    let Ok(text) = with_calls(alloc, count) else {
+        return false;
+    };
+    refuses(alloc, &text)
+}
+
+fn all_are_read(alloc: Global, sources: &[(&[u8], &[u16], u16)]) -> bool {
+    for (text, calls, status) in sources {
+        if !reads(alloc, text, calls, *status) {
+            return false;
+        }
     }
-    for text in REFUSED_SOURCES {
-        assert!(rt; refuses(rt.alloc(), text));
-    }
-    let most = with_calls(rt.alloc(), 1000)?;
-    let program = read_source(rt.alloc(), &most)?;
-    assert_eq!(rt; program.calls.len(), 1000);
-    let more = with_calls(rt.alloc(), 1001)?;
-    assert!(rt; refuses(rt.alloc(), &more), "1,001 calls");
-    Ok(())
+    true
+}
+
+fn sources_are_read(alloc: Global) -> bool {
+    all_are_read(alloc, &SOURCES)
+}
+
+fn all_are_refused(alloc: Global, sources: &[&[u8]]) -> bool {
+    sources.iter().all(|text| refuses(alloc, text))
+}
+
+fn sources_are_refused(alloc: Global) -> bool {
+    all_are_refused(alloc, &REFUSED_SOURCES)
 }
 
 #[test]
-fn a_text_is_written(rt: HostRuntime) -> Result<(), Fail> {
+fn sources_are_read_or_refused(rt: HostRuntime) {
+    assert!(rt; sources_are_read(rt.alloc()));
+    assert!(rt; sources_are_refused(rt.alloc()));
+    assert!(rt; reads_calls(rt.alloc(), 1000));
+    assert!(rt; refuses_calls(rt.alloc(), 1001), "1,001 calls");
+}
+
+fn writes(alloc: Global, program: &SourceProgram, expected: &[u8]) -> bool {
+    let Ok(machine) = read_description(alloc, TINY.as_bytes()) else {
+        return false;
+    };
+    let Ok(text) = write_assembly(alloc, &machine, program) else {
+        return false;
+    };
+    text.as_slice() == expected
+}
+
+fn compiles(alloc: Global, source: &[u8], expected: &[u8]) -> bool {
+    let Ok(program) = read_source(alloc, source) else {
+        return false;
+    };
+    writes(alloc, &program, expected)
+}
+
+#[test]
+fn a_text_is_written(rt: HostRuntime) {
     let source = b"#include <stdio.h>\nint main(void){putchar(72);putchar(321);return 7;}\n";
-    let machine = read_description(rt.alloc(), TINY.as_bytes())?;
-    let program = read_source(rt.alloc(), source)?;
-    let text = write_assembly(rt.alloc(), &machine, &program)?;
-    assert_eq!(rt;
-        text.as_slice(),
-        b".text\n\tset 72,a\n\tput\n\tset 321,a\n\tput\n\tset 7,a\n\tend\n".as_slice()
-    );
-    Ok(())
+    let expected = b".text\n\tset 72,a\n\tput\n\tset 321,a\n\tput\n\tset 7,a\n\tend\n";
+    assert!(rt; compiles(rt.alloc(), source, expected));
 }

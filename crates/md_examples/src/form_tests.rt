@@ -1,6 +1,6 @@
 //! What lines say by the format of descriptions, on words of 16 bits.
 
-use md_forms::{Form, Kind, OpenTransfer, OpenTree, Piece, Range, Said};
+use md_forms::{Form, Kind, OpenTransfer, OpenTree, Piece, Range, Said, Slot};
 use md_parser::{FormFault, read_form};
 use md_rows::Role;
 use rtl_tree::{BinOp, Cell, Expr, Place, Width};
@@ -8,12 +8,89 @@ use rtl_word::Rel;
 use sqlite_items::Items;
 use std::alloc::Global;
 
-fn said(alloc: Global, line: &[u8]) -> Option<Form> {
-    if line.len() > 255 {
-        return None;
-    }
-    read_form(alloc, 16, line).ok()
+// A piece of a text; a hole by its name, and what it takes.
+#[derive(Clone, Copy)]
+enum Part {
+    Name(&'static [u8]),
+    Number(i64),
+    Mark(u8),
+    Named(&'static [u8], &'static [u8]),
+    Numbers(&'static [u8], bool, Range),
+    Symbol(&'static [u8]),
+    Label(&'static [u8]),
 }
+
+// What a line says. Of the last three the tree or the transfer is one of those below.
+#[derive(Clone, Copy)]
+enum Expected {
+    Version,
+    MachineName(&'static [u8]),
+    WordBits(i64),
+    MemorySize(i64),
+    DataBegin(i64),
+    StackSize(i64),
+    Register(i64, &'static [u8], Role),
+    Flag(i64, &'static [u8]),
+    Class(&'static [u8], &'static [&'static [u8]]),
+    IndexMode(&'static [u8], &'static [Part]),
+    AddRow(&'static [Part]),
+    BranchRow(&'static [Part]),
+}
+
+// `-2(<x:r>)<n:!-8..7>`
+const INDEX: [Part; 5] = [
+    Part::Number(-2),
+    Part::Mark(b'('),
+    Part::Named(b"x", b"r"),
+    Part::Mark(b')'),
+    Part::Numbers(b"n", true, Range::Between(-8, 7)),
+];
+
+// `add <s:a>,<d:r>`
+const ADD: [Part; 4] = [
+    Part::Name(b"add"),
+    Part::Named(b"s", b"a"),
+    Part::Mark(b','),
+    Part::Named(b"d", b"r"),
+];
+
+// `_b<k:word> <t:label>+<v:sym>`
+const BRANCH: [Part; 5] = [
+    Part::Name(b"_b"),
+    Part::Numbers(b"k", false, Range::OfWord),
+    Part::Label(b"t"),
+    Part::Mark(b'+'),
+    Part::Symbol(b"v"),
+];
+
+const REGISTERS: [&[u8]; 3] = [b"r0", b"$1", b"r0"];
+
+const LINES: [(&str, &Expected); 12] = [
+    ("vpo 1", &Expected::Version),
+    ("name _a.b$9", &Expected::MachineName(b"_a.b$9")),
+    ("word 16", &Expected::WordBits(16)),
+    ("memory 9999999999", &Expected::MemorySize(9_999_999_999)),
+    ("data 0", &Expected::DataBegin(0)),
+    ("stack -1", &Expected::StackSize(-1)),
+    (
+        "reg 31 $ra link",
+        &Expected::Register(31, b"$ra", Role::Link),
+    ),
+    ("flag 7 Z", &Expected::Flag(7, b"Z")),
+    ("class r r0 $1 r0", &Expected::Class(b"r", &REGISTERS)),
+    (
+        "mode index | -2 (<x:r>) <n:!-8..7> | M[(<n> + <x>)]",
+        &Expected::IndexMode(b"index", &INDEX),
+    ),
+    (
+        "row add <s:a>,<d:r> | <d> = (<d> + <s>); f[3] = lost",
+        &Expected::AddRow(&ADD),
+    ),
+    (
+        "row _b<k:word> <t:label>+<v:sym> | PC = ((<v> eq -1) -> <t>)",
+        &Expected::BranchRow(&BRANCH),
+    ),
+];
 
 fn is(name: &Items<u8>, expected: &[u8]) -> bool {
     name.as_slice() == expected
@@ -21,68 +98,47 @@ fn is(name: &Items<u8>, expected: &[u8]) -> bool {
 
 fn are(names: &Items<Items<u8>>, expected: &[&[u8]]) -> bool {
     let names = names.as_slice();
-    names.len() == expected.len()
-        && names
-            .iter()
-            .zip(expected)
-            .all(|(name, text)| is(name, text))
-}
-
-fn is_machine(form: Option<Form>, expected: &[u8]) -> bool {
-    match form {
-        Some(Form::MachineName(name)) => is(&name, expected),
-        _ => false,
+    if names.len() != expected.len() {
+        return false;
     }
+    names
+        .iter()
+        .zip(expected)
+        .all(|(name, text)| is(name, text))
 }
 
-#[test]
-fn the_heading(rt: HostRuntime) {
-    let alloc = rt.alloc();
-    assert!(rt; matches!(said(alloc, b"vpo 1"), Some(Form::Version)));
-    assert!(rt; is_machine(said(alloc, b"name _a.b$9"), b"_a.b$9"));
-    assert!(rt; matches!(said(alloc, b"word 16"), Some(Form::WordBits(16))));
-    assert!(rt;
-        matches!(
-            said(alloc, b"memory 9999999999"),
-            Some(Form::MemorySize(9999999999))
-        )
-    );
-    assert!(rt; matches!(said(alloc, b"data 0"), Some(Form::DataBegin(0))));
-    assert!(rt; matches!(said(alloc, b"stack -1"), Some(Form::StackSize(-1))));
-    assert!(rt; matches!(read_form(alloc, 16, b""), Err(FormFault::NoForm)));
-}
-
-fn is_link_31(form: Option<Form>) -> bool {
-    match form {
-        Some(Form::RegisterLine { number, name, role }) => {
-            number == 31 && is(&name, b"$ra") && role == Role::Link
+fn is_slot(slot: &Slot, part: Part) -> bool {
+    match (&slot.kind, part) {
+        (Kind::Named(class), Part::Named(name, expected)) => {
+            is(&slot.name, name) && is(class, expected)
         }
-        _ => false,
-    }
-}
-
-fn is_flag_7(form: Option<Form>) -> bool {
-    match form {
-        Some(Form::FlagLine { number, name }) => number == 7 && is(&name, b"Z"),
-        _ => false,
-    }
-}
-
-fn is_class(form: Option<Form>) -> bool {
-    match form {
-        Some(Form::ClassLine { name, registers }) => {
-            is(&name, b"r") && are(&registers, &[b"r0".as_slice(), b"$1", b"r0"])
+        (Kind::Numbers { inverted, range }, Part::Numbers(name, turned, expected)) => {
+            is(&slot.name, name) && *inverted == turned && *range == expected
         }
+        (Kind::Symbols, Part::Symbol(name)) => is(&slot.name, name),
+        (Kind::Labels, Part::Label(name)) => is(&slot.name, name),
         _ => false,
     }
 }
 
-#[test]
-fn registers_flags_and_classes(rt: HostRuntime) {
-    let alloc = rt.alloc();
-    assert!(rt; is_link_31(said(alloc, b"reg 31 $ra link")));
-    assert!(rt; is_flag_7(said(alloc, b"flag 7 Z")));
-    assert!(rt; is_class(said(alloc, b"class r r0 $1 r0")));
+fn is_part(piece: &Piece, part: Part) -> bool {
+    match (piece, part) {
+        (Piece::Name(name), Part::Name(expected)) => is(name, expected),
+        (Piece::Number(number), Part::Number(expected)) => *number == expected,
+        (Piece::Mark(byte), Part::Mark(expected)) => *byte == expected,
+        (Piece::Hole(slot), _) => is_slot(slot, part),
+        _ => false,
+    }
+}
+
+fn is_text(text: &Items<Piece>, expected: &[Part]) -> bool {
+    let text = text.as_slice();
+    if text.len() != expected.len() {
+        return false;
+    }
+    text.iter()
+        .zip(expected)
+        .all(|(piece, part)| is_part(piece, *part))
 }
 
 fn is_hole(tree: &Expr, number: u8) -> bool {
@@ -92,45 +148,6 @@ fn is_hole(tree: &Expr, number: u8) -> bool {
     }
 }
 
-// Whether a text is `-2(<x:r>)<n:!-8..7>`.
-fn is_index_text(text: &[Piece]) -> bool {
-    match text {
-        [
-            Piece::Number(-2),
-            Piece::Mark(b'('),
-            Piece::Hole(x),
-            Piece::Mark(b')'),
-            Piece::Hole(n),
-        ] => {
-            is(&x.name, b"x") && is_named(&x.kind, b"r") && is(&n.name, b"n") && is_small(&n.kind)
-        }
-        _ => false,
-    }
-}
-
-fn is_named(kind: &Kind, expected: &[u8]) -> bool {
-    match kind {
-        Kind::Named(name) => is(name, expected),
-        _ => false,
-    }
-}
-
-fn is_small(kind: &Kind) -> bool {
-    match kind {
-        Kind::Numbers { inverted, range } => *inverted && *range == Range::Between(-8, 7),
-        _ => false,
-    }
-}
-
-// Whether a tree is `M[(<n> + <x>)]`, where holes are numbered as they stand.
-fn is_index_tree(tree: &OpenTree) -> bool {
-    are(&tree.names, &[b"n".as_slice(), b"x"])
-        && match &tree.tree {
-            Expr::Mem(Width::Full, address) => is_sum(address, 0, 1),
-            _ => false,
-        }
-}
-
 fn is_sum(tree: &Expr, first: u8, second: u8) -> bool {
     match tree {
         Expr::Bin(BinOp::Add, left, right) => is_hole(left, first) && is_hole(right, second),
@@ -138,29 +155,11 @@ fn is_sum(tree: &Expr, first: u8, second: u8) -> bool {
     }
 }
 
-fn is_index_mode(form: Option<Form>) -> bool {
-    match form {
-        Some(Form::ModeLine { name, text, tree }) => {
-            is(&name, b"index") && is_index_text(text.as_slice()) && is_index_tree(&tree)
-        }
-        _ => false,
-    }
-}
-
-// Whether a text is `add <s:a>,<d:r>`.
-fn is_add_text(text: &[Piece]) -> bool {
-    match text {
-        [
-            Piece::Name(word),
-            Piece::Hole(s),
-            Piece::Mark(b','),
-            Piece::Hole(d),
-        ] => {
-            is(word, b"add")
-                && is(&s.name, b"s")
-                && is_named(&s.kind, b"a")
-                && is(&d.name, b"d")
-                && is_named(&d.kind, b"r")
+// Whether a tree is `M[(<n> + <x>)]`, where holes are numbered as they stand.
+fn is_index_tree(tree: &OpenTree) -> bool {
+    match &tree.tree {
+        Expr::Mem(Width::Full, address) => {
+            is_sum(address, 0, 1) && are(&tree.names, &[b"n".as_slice(), b"x"])
         }
         _ => false,
     }
@@ -175,60 +174,33 @@ fn is_add(said: &Said) -> bool {
 }
 
 fn loses_flag_3(said: &Said) -> bool {
-    match (&said.to, &said.value) {
-        (Some(Place::Cell(Cell::Flag(3))), Expr::Lost) => true,
+    match &said.to {
+        Some(Place::Cell(Cell::Flag(3))) => matches!(&said.value, Expr::Lost),
         _ => false,
     }
 }
 
 fn is_add_transfer(transfer: &OpenTransfer) -> bool {
-    are(&transfer.names, &[b"d".as_slice(), b"d", b"s"])
-        && match transfer.moves.as_slice() {
-            [add, lost] => is_add(add) && loses_flag_3(lost),
-            _ => false,
-        }
-}
-
-fn is_add_row(form: Option<Form>) -> bool {
-    match form {
-        Some(Form::RowLine { text, transfer }) => {
-            is_add_text(text.as_slice()) && is_add_transfer(&transfer)
+    match transfer.moves.as_slice() {
+        [add, lost] => {
+            is_add(add)
+                && loses_flag_3(lost)
+                && are(&transfer.names, &[b"d".as_slice(), b"d", b"s"])
         }
         _ => false,
     }
 }
 
-// Whether a text is `_b<k:word> <t:label>+<v:sym>`.
-fn is_branch_text(text: &[Piece]) -> bool {
-    match text {
-        [
-            Piece::Name(word),
-            Piece::Hole(k),
-            Piece::Hole(t),
-            Piece::Mark(b'+'),
-            Piece::Hole(v),
-        ] => { is(word, b"_b") && is_word(&k.kind) && is_label(&t.kind) && is_symbol(&v.kind) }
+fn is_minus_1(tree: &Expr) -> bool {
+    match tree {
+        Expr::Num(word) => *word == 65535,
         _ => false,
     }
 }
 
-fn is_word(kind: &Kind) -> bool {
-    match kind {
-        Kind::Numbers { inverted, range } => !*inverted && *range == Range::OfWord,
-        _ => false,
-    }
-}
-
-fn is_label(kind: &Kind) -> bool {
-    match kind {
-        Kind::Labels => true,
-        _ => false,
-    }
-}
-
-fn is_symbol(kind: &Kind) -> bool {
-    match kind {
-        Kind::Symbols => true,
+fn is_test(tree: &Expr) -> bool {
+    match tree {
+        Expr::Bin(BinOp::Cmp(Rel::Eq), left, right) => is_hole(left, 0) && is_minus_1(right),
         _ => false,
     }
 }
@@ -241,44 +213,85 @@ fn is_jump(tree: &Expr) -> bool {
     }
 }
 
-fn is_test(tree: &Expr) -> bool {
-    match tree {
-        Expr::Bin(BinOp::Cmp(Rel::Eq), left, right) => is_hole(left, 0) && is_minus_1(right),
+fn is_branch_transfer(transfer: &OpenTransfer) -> bool {
+    match transfer.moves.as_slice() {
+        [said] => matches!(&said.to, Some(Place::Cell(Cell::Pc))) && is_jump(&said.value),
         _ => false,
     }
 }
 
-fn is_minus_1(tree: &Expr) -> bool {
-    match tree {
-        Expr::Num(word) => *word == 65535,
+fn is_row(text: &Items<Piece>, transfer: &OpenTransfer, expected: Expected) -> bool {
+    match expected {
+        Expected::AddRow(parts) => is_text(text, parts) && is_add_transfer(transfer),
+        Expected::BranchRow(parts) => is_text(text, parts) && is_branch_transfer(transfer),
         _ => false,
     }
 }
 
-fn is_branch(said: &Said) -> bool {
-    match &said.to {
-        Some(Place::Cell(Cell::Pc)) => is_jump(&said.value),
-        _ => false,
-    }
-}
-
-fn is_branch_row(form: Option<Form>) -> bool {
-    match form {
-        Some(Form::RowLine { text, transfer }) => {
-            is_branch_text(text.as_slice())
-                && transfer.moves.as_slice().iter().all(|said| is_branch(said))
+fn is_declaration(form: &Form, expected: Expected) -> bool {
+    match (form, expected) {
+        (Form::RegisterLine { number, name, role }, Expected::Register(n, text, other)) => {
+            *number == n && *role == other && is(name, text)
         }
+        (Form::FlagLine { number, name }, Expected::Flag(n, text)) => {
+            *number == n && is(name, text)
+        }
+        (Form::ClassLine { name, registers }, Expected::Class(text, names)) => {
+            is(name, text) && are(registers, names)
+        }
+        (Form::ModeLine { name, text, tree }, Expected::IndexMode(word, parts)) => {
+            is(name, word) && is_text(text, parts) && is_index_tree(tree)
+        }
+        (Form::RowLine { text, transfer }, _) => is_row(text, transfer, expected),
         _ => false,
     }
+}
+
+fn is_said(form: &Form, expected: Expected) -> bool {
+    match (form, expected) {
+        (Form::Version, Expected::Version) => true,
+        (Form::MachineName(name), Expected::MachineName(text)) => is(name, text),
+        (Form::WordBits(number), Expected::WordBits(n)) => *number == n,
+        (Form::MemorySize(number), Expected::MemorySize(n)) => *number == n,
+        (Form::DataBegin(number), Expected::DataBegin(n)) => *number == n,
+        (Form::StackSize(number), Expected::StackSize(n)) => *number == n,
+        _ => is_declaration(form, expected),
+    }
+}
+
+fn says(alloc: Global, line: &[u8], expected: Expected) -> bool {
+    if line.len() > 255 {
+        return false;
+    }
+    let Ok(form) = read_form(alloc, 16, line) else {
+        return false;
+    };
+    is_said(&form, expected)
+}
+
+// The first of these lines that doesn't say what is expected.
+fn first_unsaid(
+    alloc: Global,
+    table: &[(&'static str, &'static Expected)],
+) -> Option<&'static str> {
+    for (line, expected) in table {
+        if !says(alloc, line.as_bytes(), **expected) {
+            return Some(*line);
+        }
+    }
+    None
+}
+
+fn unsaid(alloc: Global) -> Option<&'static str> {
+    first_unsaid(alloc, &LINES)
+}
+
+fn empty_has_no_form(alloc: Global) -> bool {
+    matches!(read_form(alloc, 16, b""), Err(FormFault::NoForm))
 }
 
 #[test]
-fn modes_and_rows(rt: HostRuntime) {
-    let alloc = rt.alloc();
-    let index = b"mode index | -2 (<x:r>) <n:!-8..7> | M[(<n> + <x>)]";
-    assert!(rt; is_index_mode(said(alloc, index)));
-    let add = b"row add <s:a>,<d:r> | <d> = (<d> + <s>); f[3] = lost";
-    assert!(rt; is_add_row(said(alloc, add)));
-    let branch = b"row _b<k:word> <t:label>+<v:sym> | PC = ((<v> eq -1) -> <t>)";
-    assert!(rt; is_branch_row(said(alloc, branch)));
+fn lines(rt: HostRuntime) {
+    assert_eq!(rt; unsaid(rt.alloc()), None);
+    assert!(rt; empty_has_no_form(rt.alloc()));
 }

@@ -6,12 +6,6 @@ use rtl_tree::{Assign, BinOp, Cell, Effects, Expr, Lab, NoMemory, Place, UnOp, W
 use smallvec::SmallVec;
 use sqlite_items::Items;
 use std::alloc::Global;
-use std::test::Fail;
-
-fn binary(alloc: Global, operator: BinOp, a: Expr, b: Expr) -> Result<Expr, NoMemory> {
-    let a = Box::new(alloc, a)?;
-    Ok(Expr::Bin(operator, a, Box::new(alloc, b)?))
-}
 
 // A register, a number, a symbol and a label, and then more numbers.
 fn binding(alloc: Global) -> Binding {
@@ -30,77 +24,153 @@ fn binding(alloc: Global) -> Binding {
     }
 }
 
-#[test]
-fn each_hole_has_its_value(rt: HostRuntime) -> Result<(), Fail> {
-    let alloc = rt.alloc();
-    let binding = binding(alloc);
-    let table = [
-        (Expr::Cell(Cell::Hole(0)), Expr::Cell(Cell::Hard(3))),
-        (Expr::NumHole(1), Expr::Num(8)),
-        (Expr::NameHole(2), Expr::Sym(2)),
-        (Expr::NameHole(3), Expr::Label(Lab::Block(5))),
-        (Expr::NumHole(8), Expr::NumHole(8)),
-        (Expr::Cell(Cell::Flag(0)), Expr::Cell(Cell::Flag(0))),
-    ];
-    for (tree, expected) in &table {
-        let made = filled(alloc, tree, &binding)?;
-        assert!(rt; same(&made, expected));
-    }
-    Ok(())
+fn becomes(alloc: Global, tree: &Expr, expected: &Expr) -> bool {
+    let Ok(made) = filled(alloc, tree, &binding(alloc)) else {
+        return false;
+    };
+    same(&made, expected)
 }
 
-// `M[(<0> + <1>)] = (not <0>); <0> = <2>`, where the third hole is for a symbol.
-fn effects(alloc: Global) -> Result<Effects, NoMemory> {
-    let address = binary(
-        alloc,
-        BinOp::Add,
-        Expr::Cell(Cell::Hole(0)),
-        Expr::NumHole(1),
-    )?;
+#[test]
+fn each_hole_has_its_value(rt: HostRuntime) {
+    let alloc = rt.alloc();
+    assert!(rt;
+        becomes(
+            alloc,
+            &Expr::Cell(Cell::Hole(0)),
+            &Expr::Cell(Cell::Hard(3))
+        )
+    );
+    assert!(rt; becomes(alloc, &Expr::NumHole(1), &Expr::Num(8)));
+    assert!(rt; becomes(alloc, &Expr::NameHole(2), &Expr::Sym(2)));
+    assert!(rt; becomes(alloc, &Expr::NameHole(3), &Expr::Label(Lab::Block(5))));
+    assert!(rt; becomes(alloc, &Expr::NumHole(8), &Expr::NumHole(8)));
+    assert!(rt;
+        becomes(
+            alloc,
+            &Expr::Cell(Cell::Flag(0)),
+            &Expr::Cell(Cell::Flag(0))
+        )
+    );
+}
+
+// `(<0> + <1>)`
+fn address(alloc: Global) -> Result<Expr, NoMemory> {
+    let register = Box::new(alloc, Expr::Cell(Cell::Hole(0)))?;
+    Ok(Expr::Bin(BinOp::Add, register, Box::new(alloc, Expr::NumHole(1))?))
+}
+
+// `M[(<0> + <1>)] = (not <0>)`
+fn store(alloc: Global) -> Result<Assign, NoMemory> {
+    let address = address(alloc)?;
     let complement = Expr::Un(UnOp::Not, Box::new(alloc, Expr::Cell(Cell::Hole(0)))?);
-    let mut list = SmallVec::new(alloc);
-    list.push(Assign {
+    Ok(Assign {
         to: Place::Mem(Width::Full, address),
         value: complement,
-    })?;
-    list.push(Assign {
-        to: Place::Cell(Cell::Hole(0)),
-        value: Expr::NameHole(2),
-    })?;
-    Ok(Effects { list })
-}
-
-fn row(alloc: Global) -> Result<Row, NoMemory> {
-    Ok(Row {
-        line: 1,
-        text: Items::new(alloc),
-        holes: Items::from_slice(
-            alloc,
-            &[
-                Hole::Reg(8),
-                Hole::Num {
-                    low: 0,
-                    high: 15,
-                    inverted: false,
-                },
-                Hole::Sym,
-            ],
-        )?,
-        effects: effects(alloc)?,
-        normal: effects(alloc)?,
     })
 }
 
-#[test]
-fn a_row_is_filled(rt: HostRuntime) -> Result<(), Fail> {
-    let alloc = rt.alloc();
-    let made = fill_row(alloc, &row(alloc)?, &binding(alloc))?;
-    let [store, set] = made.list.as_slice() else {
-        return Err(Fail::new("not two assignments"));
+// `<0> = <2>`, where the third hole is for a symbol.
+fn set() -> Assign {
+    Assign {
+        to: Place::Cell(Cell::Hole(0)),
+        value: Expr::NameHole(2),
+    }
+}
+
+fn effects(alloc: Global, first: Assign) -> Effects {
+    let moves = [first, set(), Assign::default()];
+    Effects {
+        list: SmallVec::from_buf_and_len(alloc, moves, 2),
+    }
+}
+
+const HOLES: [Hole; 3] = [
+    Hole::Reg(8),
+    Hole::Num {
+        low: 0,
+        high: 15,
+        inverted: false,
+    },
+    Hole::Sym,
+];
+
+// The row whose transfer is `M[(<0> + <1>)] = (not <0>); <0> = <2>`. Nothing reads its normal form.
+fn row(alloc: Global) -> Result<Row, NoMemory> {
+    let first = store(alloc)?;
+    Ok(Row {
+        line: 1,
+        text: Items::new(alloc),
+        holes: Items::from_slice(alloc, &HOLES)?,
+        effects: effects(alloc, first),
+        normal: effects(alloc, set()),
+    })
+}
+
+fn is_cell(tree: &Expr, cell: Cell) -> bool {
+    match tree {
+        Expr::Cell(other) => *other == cell,
+        _ => false,
+    }
+}
+
+fn is_number(tree: &Expr, number: u32) -> bool {
+    match tree {
+        Expr::Num(other) => *other == number,
+        _ => false,
+    }
+}
+
+// Whether a tree is `(r[3] + 8)`.
+fn is_address(tree: &Expr) -> bool {
+    match tree {
+        Expr::Bin(BinOp::Add, left, right) => {
+            is_cell(left, Cell::Hard(3)) && is_number(right, 8)
+        }
+        _ => false,
+    }
+}
+
+// Whether an assignment is `M[(r[3] + 8)] = (not r[3])`.
+fn is_store(store: &Assign) -> bool {
+    match (&store.to, &store.value) {
+        (Place::Mem(Width::Full, at), Expr::Un(UnOp::Not, value)) => {
+            is_address(at) && is_cell(value, Cell::Hard(3))
+        }
+        _ => false,
+    }
+}
+
+// Whether an assignment is `r[3] = _2`, the object at that place.
+fn is_set(set: &Assign) -> bool {
+    match (&set.to, &set.value) {
+        (Place::Cell(Cell::Hard(3)), Expr::Sym(2)) => true,
+        _ => false,
+    }
+}
+
+fn is_filled(made: &Effects) -> bool {
+    match made.list.as_slice() {
+        [store, set] => is_store(store) && is_set(set),
+        _ => false,
+    }
+}
+
+fn fills(alloc: Global, row: &Row) -> bool {
+    let Ok(made) = fill_row(alloc, row, &binding(alloc)) else {
+        return false;
     };
-    let address = binary(alloc, BinOp::Add, Expr::Cell(Cell::Hard(3)), Expr::Num(8))?;
-    assert!(rt; matches!(&store.to, Place::Mem(Width::Full, at) if same(at, &address)));
-    assert!(rt; matches!(&set.to, Place::Cell(Cell::Hard(3))));
-    assert!(rt; same(&set.value, &Expr::Sym(2)));
-    Ok(())
+    is_filled(&made)
+}
+
+fn fills_a_row(alloc: Global) -> bool {
+    let Ok(row) = row(alloc) else {
+        return false;
+    };
+    fills(alloc, &row)
+}
+
+#[test]
+fn a_row_is_filled(rt: HostRuntime) {
+    assert!(rt; fills_a_row(rt.alloc()));
 }

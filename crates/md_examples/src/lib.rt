@@ -5,7 +5,10 @@
 //!   (`docs/refused.json` has them all).
 //! - `verdict`: what is told of a text.
 //!
-//! The tests of all crates of descriptions stand here.
+//! The tests of all crates of descriptions stand here. A test is a loop over a table with one assertion: the table is a constant of flat rows
+//! of literals, gone over by reference, one helper judges a row and answers a `bool`, and each call that owns something stands in a function
+//! of its own, as `let Ok(value) = call() else { return false; }; judge(&value)`. So little is alive wherever a function may end, and the
+//! proof of a test takes seconds.
 #![tactic(auto)]
 
 #[cfg(test)]

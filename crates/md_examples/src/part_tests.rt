@@ -2,8 +2,8 @@
 
 use asm_token::token::Token;
 use md_lines::{
-    Kind, Piece, Range, Slot, before_word, is_name, number, read_lines, read_names, read_pieces,
-    role, split_at_bar,
+    Kind, Line, Lines, Piece, Range, Slot, before_word, is_name, number, read_lines, read_names,
+    read_pieces, role, split_at_bar,
 };
 use md_match::{fits, fits_at};
 use md_rows::{Bound, Hole, RawDescription, Role, number_of_word};
@@ -13,62 +13,104 @@ use rtl_tree::{BinOp, Cell, Lab, NoMemory};
 use rtl_word::Rel;
 use sqlite_items::Items;
 use std::alloc::Global;
-use std::test::Fail;
+
+fn has_lines(lines: &Lines, expected: &[Line], last: u32) -> bool {
+    lines.kept.as_slice() == expected && lines.last == last
+}
+
+fn reads_lines(alloc: Global) -> bool {
+    let Ok(lines) = read_lines(alloc, b"vpo 1\n\n* a note\nname tiny\n\n") else {
+        return false;
+    };
+    let first = Line {
+        number: 1,
+        bytes: b"vpo 1",
+    };
+    let second = Line {
+        number: 4,
+        bytes: b"name tiny",
+    };
+    has_lines(&lines, &[first, second], 5)
+}
+
+fn reads_names(alloc: Global) -> bool {
+    let Ok(names) = read_names(alloc, b" r0 $1 sp") else {
+        return false;
+    };
+    let expected = [b"r0".as_slice(), b"$1", b"sp"];
+    names.as_slice() == expected.as_slice()
+}
 
 #[test]
-fn lines_names_and_fields(rt: HostRuntime) -> Result<(), Fail> {
-    let lines = read_lines(rt.alloc(), b"vpo 1\n\n* a note\nname tiny\n\n")?;
-    assert_eq!(rt; lines.kept.len(), 2);
-    assert_eq!(rt; lines.kept[0].number, 1);
-    assert_eq!(rt; lines.kept[1].number, 4);
-    assert_eq!(rt; lines.kept[1].bytes, b"name tiny".as_slice());
-    assert_eq!(rt; lines.last, 5);
-    let names = read_names(rt.alloc(), b" r0 $1 sp")?;
-    let expected = [b"r0".as_slice(), b"$1".as_slice(), b"sp".as_slice()];
-    assert!(rt; names.as_slice() == expected.as_slice());
-    assert_eq!(rt; number(b"-32768"), Some(-32768));
-    assert_eq!(rt; number(b"9999999999"), Some(9_999_999_999));
-    assert_eq!(rt; role(b"link"), Some(Role::Link));
-    assert_eq!(rt; role(b"linked"), None);
+fn lines_and_names(rt: HostRuntime) {
+    assert!(rt; reads_lines(rt.alloc()));
+    assert!(rt; reads_names(rt.alloc()));
+}
+
+#[test]
+fn fields(rt: HostRuntime) {
+    assert!(rt; number(b"-32768") == Some(-32768));
+    assert!(rt; number(b"9999999999") == Some(9_999_999_999));
+    assert!(rt; role(b"link") == Some(Role::Link));
+    assert!(rt; role(b"linked").is_none());
     assert!(rt; is_name(b"_x$.9"));
     assert!(rt; !is_name(b"9x"));
-    assert_eq!(rt;
-        split_at_bar(b"a b | c | d"),
-        Some((b"a b".as_slice(), b"c | d".as_slice()))
-    );
-    assert_eq!(rt; split_at_bar(b"a| b | c"), None);
-    assert_eq!(rt; before_word(b"r[0] ", b" "), Some(b"r[0]".as_slice()));
-    Ok(())
 }
 
 #[test]
-fn pieces_of_a_text(rt: HostRuntime) -> Result<(), Fail> {
-    let pieces = read_pieces(
-        rt.alloc(),
-        b"mov  #<n:!-1..7>,$0<a:word><b:sym>-5<c:label><d:r.1>",
-    )?;
-    let expected = [
-        Piece::Literal(Token::Name(b"mov")),
-        Piece::Literal(Token::Mark(b'#')),
-        hole(b"n", numbers(true, Range::Between(-1, 7))),
-        Piece::Literal(Token::Mark(b',')),
-        Piece::Literal(Token::Name(b"$0")),
-        hole(b"a", numbers(false, Range::OfWord)),
-        hole(b"b", Kind::Symbols),
-        Piece::Literal(Token::Number(-5)),
-        hole(b"c", Kind::Labels),
-        hole(b"d", Kind::Named(b"r.1")),
-    ];
-    assert!(rt; pieces.as_slice() == expected.as_slice());
-    Ok(())
+fn splits(rt: HostRuntime) {
+    let parts = (b"a b".as_slice(), b"c | d".as_slice());
+    assert!(rt; split_at_bar(b"a b | c | d") == Some(parts));
+    assert!(rt; split_at_bar(b"a| b | c").is_none());
+    assert!(rt; before_word(b"r[0] ", b" ") == Some(b"r[0]".as_slice()));
 }
 
-fn hole<'a>(name: &'a [u8], kind: Kind<'a>) -> Piece<'a> {
-    Piece::Hole(Slot { name, kind })
+// The pieces of `mov  #<n:!-1..7>,$0<a:word><b:sym>-5<c:label><d:r.1>`.
+const PIECES: [Piece; 10] = [
+    Piece::Literal(Token::Name(b"mov")),
+    Piece::Literal(Token::Mark(b'#')),
+    Piece::Hole(Slot {
+        name: b"n",
+        kind: Kind::Numbers {
+            inverted: true,
+            range: Range::Between(-1, 7),
+        },
+    }),
+    Piece::Literal(Token::Mark(b',')),
+    Piece::Literal(Token::Name(b"$0")),
+    Piece::Hole(Slot {
+        name: b"a",
+        kind: Kind::Numbers {
+            inverted: false,
+            range: Range::OfWord,
+        },
+    }),
+    Piece::Hole(Slot {
+        name: b"b",
+        kind: Kind::Symbols,
+    }),
+    Piece::Literal(Token::Number(-5)),
+    Piece::Hole(Slot {
+        name: b"c",
+        kind: Kind::Labels,
+    }),
+    Piece::Hole(Slot {
+        name: b"d",
+        kind: Kind::Named(b"r.1"),
+    }),
+];
+
+fn reads_pieces(alloc: Global) -> bool {
+    let text = b"mov  #<n:!-1..7>,$0<a:word><b:sym>-5<c:label><d:r.1>";
+    let Ok(pieces) = read_pieces(alloc, text) else {
+        return false;
+    };
+    pieces.as_slice() == PIECES.as_slice()
 }
 
-fn numbers<'a>(inverted: bool, range: Range) -> Kind<'a> {
-    Kind::Numbers { inverted, range }
+#[test]
+fn pieces_of_a_text(rt: HostRuntime) {
+    assert!(rt; reads_pieces(rt.alloc()));
 }
 
 const GENERAL: u64 = 0b1110;
@@ -102,17 +144,20 @@ const FITTING: [(Hole, Bound, bool); 9] = [
 ];
 
 #[test]
+fn numbers_of_words(rt: HostRuntime) {
+    assert!(rt; number_of_word(16, -32768, 32767, false, 65535) == Some(-1));
+    assert!(rt; number_of_word(16, 0, 65535, false, 65535) == Some(65535));
+    assert!(rt; number_of_word(16, -32768, 32767, true, 65534) == Some(1));
+    assert!(rt; number_of_word(16, 1, 3, false, 3) == Some(3));
+    assert!(rt; number_of_word(16, 1, 3, false, 4).is_none());
+    assert!(rt; number_of_word(32, -32768, -1, false, 4_294_967_295) == Some(-1));
+    assert!(rt; number_of_word(32, -32768, -1, false, 1).is_none());
+}
+
+#[test]
 fn values_in_holes(rt: HostRuntime) {
-    assert_eq!(rt; number_of_word(16, -32768, 32767, false, 65535), Some(-1));
-    assert_eq!(rt; number_of_word(16, 0, 65535, false, 65535), Some(65535));
-    assert_eq!(rt; number_of_word(16, -32768, 32767, true, 65534), Some(1));
-    assert_eq!(rt; number_of_word(16, 1, 3, false, 3), Some(3));
-    assert_eq!(rt; number_of_word(16, 1, 3, false, 4), None);
-    let negative = number_of_word(32, -32768, -1, false, 4_294_967_295);
-    assert_eq!(rt; negative, Some(-1));
-    assert_eq!(rt; number_of_word(32, -32768, -1, false, 1), None);
     for (hole, bound, answer) in FITTING {
-        assert_eq!(rt; fits(16, GENERAL, hole, bound), answer);
+        assert!(rt; fits(16, GENERAL, hole, bound) == answer);
     }
     assert!(rt; !fits_at(16, GENERAL, &[Hole::Sym], 1, Bound::Sym(0)));
 }
@@ -126,30 +171,52 @@ fn shape(number: u8, form: u8, relation: Rel, flag: u8) -> Shape {
     }
 }
 
-#[test]
-fn shapes_and_their_patterns(rt: HostRuntime) {
-    let list = shapes().list;
-    assert_eq!(rt; list[0], shape(1, 0, Rel::Eq, 0));
-    assert_eq!(rt; list[18], shape(18, 1, Rel::Eq, 0));
-    assert_eq!(rt; list[29], shape(20, 0, Rel::Geu, 0));
-    assert_eq!(rt; list[30], shape(20, 1, Rel::Eq, 0));
-    assert_eq!(rt; list[47], shape(20, 2, Rel::Ne, 1));
-    assert_eq!(rt; list[118], shape(21, 0, Rel::Eq, 0));
-    assert_eq!(rt; list[136], shape(39, 0, Rel::Eq, 0));
-    let patterns = [
-        (shape(3, 0, Rel::Eq, 0), Pattern::SetSymbol),
-        (shape(18, 0, Rel::Eq, 0), Pattern::Operate(BinOp::And)),
-        (shape(18, 1, Rel::Eq, 0), Pattern::Clear),
-        (shape(20, 0, Rel::Lt, 0), Pattern::Branch(Rel::Lt)),
-        (shape(20, 1, Rel::Eq, 5), Pattern::Compare(5)),
-        (shape(20, 2, Rel::Gt, 5), Pattern::BranchByFlag(Rel::Gt, 5)),
-        (shape(34, 0, Rel::Eq, 0), Pattern::Operate(BinOp::Remu)),
-        (shape(39, 0, Rel::Eq, 0), Pattern::ExtendByte),
-    ];
-    for (shape, pattern) in patterns {
-        assert_eq!(rt; pattern_of(shape), Some(pattern));
+// Shapes by their places in the list: the number, the form, the relation and the flag.
+const SHAPES: [(usize, u8, u8, Rel, u8); 7] = [
+    (0, 1, 0, Rel::Eq, 0),
+    (18, 18, 1, Rel::Eq, 0),
+    (29, 20, 0, Rel::Geu, 0),
+    (30, 20, 1, Rel::Eq, 0),
+    (47, 20, 2, Rel::Ne, 1),
+    (118, 21, 0, Rel::Eq, 0),
+    (136, 39, 0, Rel::Eq, 0),
+];
+
+fn is_at(list: &[Shape], place: usize, shape: Shape) -> bool {
+    match list.get(place) {
+        Some(other) => *other == shape,
+        None => false,
     }
-    assert_eq!(rt; pattern_of(shape(40, 0, Rel::Eq, 0)), None);
+}
+
+#[test]
+fn places_of_shapes(rt: HostRuntime) {
+    let table = shapes();
+    for (place, number, form, relation, flag) in &SHAPES {
+        let shape = shape(*number, *form, *relation, *flag);
+        assert!(rt; is_at(&table.list, *place, shape), "{place}");
+    }
+}
+
+// What shapes do, each by its number, its form, its relation and its flag.
+const PATTERNS: [(u8, u8, Rel, u8, &Pattern); 8] = [
+    (3, 0, Rel::Eq, 0, &Pattern::SetSymbol),
+    (18, 0, Rel::Eq, 0, &Pattern::Operate(BinOp::And)),
+    (18, 1, Rel::Eq, 0, &Pattern::Clear),
+    (20, 0, Rel::Lt, 0, &Pattern::Branch(Rel::Lt)),
+    (20, 1, Rel::Eq, 5, &Pattern::Compare(5)),
+    (20, 2, Rel::Gt, 5, &Pattern::BranchByFlag(Rel::Gt, 5)),
+    (34, 0, Rel::Eq, 0, &Pattern::Operate(BinOp::Remu)),
+    (39, 0, Rel::Eq, 0, &Pattern::ExtendByte),
+];
+
+#[test]
+fn patterns_of_shapes(rt: HostRuntime) {
+    for (number, form, relation, flag, pattern) in &PATTERNS {
+        let shape = shape(*number, *form, *relation, *flag);
+        assert!(rt; pattern_of(shape) == Some(**pattern), "{number} {form}");
+    }
+    assert!(rt; pattern_of(shape(40, 0, Rel::Eq, 0)).is_none());
 }
 
 fn without_rows(alloc: Global) -> Result<RawDescription, NoMemory> {
@@ -166,14 +233,21 @@ fn without_rows(alloc: Global) -> Result<RawDescription, NoMemory> {
     })
 }
 
+fn has_line(alloc: Global, d: &RawDescription, expected: &[u8]) -> bool {
+    let Ok(line) = verdict_line(alloc, d) else {
+        return false;
+    };
+    line.as_slice() == expected
+}
+
+fn tells_name_word_and_rows(alloc: Global) -> bool {
+    let Ok(d) = without_rows(alloc) else {
+        return false;
+    };
+    has_line(alloc, &d, b"accepted bare word 32 rows 0\n")
+}
+
 #[test]
-fn a_line_tells_name_word_and_rows(rt: HostRuntime) -> Result<(), Fail> {
-    let alloc = rt.alloc();
-    let d = without_rows(alloc)?;
-    let line = verdict_line(alloc, &d)?;
-    assert_eq!(rt;
-        line.as_slice(),
-        b"accepted bare word 32 rows 0\n".as_slice()
-    );
-    Ok(())
+fn a_line_tells_name_word_and_rows(rt: HostRuntime) {
+    assert!(rt; tells_name_word_and_rows(rt.alloc()));
 }

@@ -1,114 +1,112 @@
 //! The places of tokens that a tree has.
 
-use crate::trees::tree_of;
-use c_tree::syntax::{Declaration, External, Initialiser, Item, Parameter, Parameters};
-use c_tree::{At, CFault};
-use std::test::Fail;
-use vp_io::Reason;
+use crate::sources::{told, tree_of};
+use c_tree::At;
+use c_tree::syntax::{Declaration, External, Initialiser, Item, Parameters, Syntax};
+
+/// What of an external declaration has a place of its own.
+#[derive(Clone, Copy)]
+enum Part {
+    /// The name that is declared first.
+    Name,
+    /// The name of the first parameter.
+    Parameter,
+    /// The brace of a function's body, or of the first object's initialiser.
+    Brace,
+}
+
+fn of_item(item: &Item, part: Part) -> Option<At> {
+    match (part, &item.initialiser) {
+        (Part::Name, _) => Some(item.name.at),
+        (Part::Brace, Initialiser::List(at, ..)) => Some(*at),
+        _ => None,
+    }
+}
+
+fn of_parameter(parameters: &Parameters) -> Option<At> {
+    let Parameters::List(list) = parameters else {
+        return None;
+    };
+    match &list.get(0)?.name {
+        Some(name) => Some(name.at),
+        None => None,
+    }
+}
+
+fn of_declaration(declaration: &Declaration, part: Part) -> Option<At> {
+    match declaration {
+        Declaration::Objects(_, _, items) => of_item(items.get(0)?, part),
+        Declaration::Function(_, _, name, parameters) => match part {
+            Part::Name => Some(name.at),
+            Part::Parameter => of_parameter(parameters),
+            Part::Brace => None,
+        },
+    }
+}
+
+fn of_external(external: &External, part: Part) -> Option<At> {
+    match external {
+        External::Declared(declaration) => of_declaration(declaration, part),
+        External::Defined {
+            name,
+            parameters,
+            brace,
+            ..
+        } => match part {
+            Part::Name => Some(name.at),
+            Part::Parameter => of_parameter(parameters),
+            Part::Brace => Some(*brace),
+        },
+        External::Include(_) => None,
+    }
+}
 
 fn at(line: u32, column: u32) -> At {
     At { line, column }
 }
 
-/// The place of the first declared name.
-fn name(part: &External) -> Option<At> {
-    match part {
-        External::Declared(Declaration::Objects(_, _, items)) => object_name(items.as_slice()),
-        External::Declared(Declaration::Function(_, _, name, _)) => Some(name.at),
-        External::Defined { name, .. } => Some(name.at),
-        External::Include(_) => None,
-    }
-}
+const SOURCE: &[u8] = b"int f(char a){}\nint\n b[1]= {2};\nvoid g();\n";
 
-fn object_name(items: &[Item]) -> Option<At> {
-    match items {
-        [item, ..] => Some(item.name.at),
-        [] => None,
-    }
-}
+/// Which external declaration of the source, which part of it, and the line and column of that.
+const PLACES: [(usize, Part, u32, u32); 6] = [
+    (0, Part::Name, 1, 5),
+    (0, Part::Parameter, 1, 12),
+    (0, Part::Brace, 1, 14),
+    (1, Part::Name, 3, 2),
+    (1, Part::Brace, 3, 8),
+    (2, Part::Name, 4, 6),
+];
 
-/// The place of the name of a function's first parameter.
-fn parameter_name(part: &External) -> Option<At> {
-    match part {
-        External::Defined {
-            parameters: Parameters::List(parameters),
-            ..
-        } => first_name(parameters.as_slice()),
-        _ => None,
-    }
-}
-
-fn first_name(parameters: &[Parameter]) -> Option<At> {
-    match parameters {
-        [
-            Parameter {
-                name: Some(name),
-                ..
-            },
-            ..
-        ] => Some(name.at),
-        _ => None,
-    }
-}
-
-/// The place of the brace of a function's body, or of the first object's initialiser.
-fn brace(part: &External) -> Option<At> {
-    match part {
-        External::Declared(Declaration::Objects(_, _, items)) => first_brace(items.as_slice()),
-        External::Defined { brace, .. } => Some(*brace),
-        _ => None,
-    }
-}
-
-fn first_brace(items: &[Item]) -> Option<At> {
-    match items {
-        [
-            Item {
-                initialiser: Initialiser::List(at, ..),
-                ..
-            },
-            ..
-        ] => Some(*at),
-        _ => None,
+fn is_placed(tree: &Syntax, row: &(usize, Part, u32, u32)) -> bool {
+    let (number, part, line, column) = *row;
+    match tree.parts.get(number) {
+        Some(external) => of_external(external, part) == Some(at(line, column)),
+        None => false,
     }
 }
 
 #[test]
-fn names_braces_and_the_end_have_their_places(rt: HostRuntime) -> Result<(), Fail> {
-    let source = b"int f(char a){}\nint\n b[1]= {2};\nvoid g();\n";
-    let tree = tree_of(rt.alloc(), source)?;
-    let parts = tree.parts.as_slice();
-    assert_eq!(rt; parts.len(), 3);
-    assert_eq!(rt; name(&parts[0]), Some(at(1, 5)));
-    assert_eq!(rt; parameter_name(&parts[0]), Some(at(1, 12)));
-    assert_eq!(rt; brace(&parts[0]), Some(at(1, 14)));
-    assert_eq!(rt; name(&parts[1]), Some(at(3, 2)));
-    assert_eq!(rt; brace(&parts[1]), Some(at(3, 8)));
-    assert_eq!(rt; name(&parts[2]), Some(at(4, 6)));
+fn names_braces_and_the_end_have_their_places(rt: HostRuntime) {
+    let Ok(tree) = tree_of(rt.alloc(), SOURCE) else {
+        panic!(rt; "the source was refused");
+    };
+    let wrong = PLACES.iter().position(|row| !is_placed(&tree, row));
+    assert_eq!(rt; wrong, None);
+    assert_eq!(rt; tree.parts.len(), 3);
     assert_eq!(rt; tree.end, at(5, 1));
-    Ok(())
 }
 
 #[test]
-fn blanks_are_an_empty_program(rt: HostRuntime) -> Result<(), Fail> {
-    let tree = tree_of(rt.alloc(), b" \n\t /* */ \n")?;
+fn blanks_are_an_empty_program(rt: HostRuntime) {
+    let Ok(tree) = tree_of(rt.alloc(), b" \n\t /* */ \n") else {
+        panic!(rt; "the source was refused");
+    };
     assert!(rt; tree.parts.is_empty());
     assert_eq!(rt; tree.end, at(3, 1));
-    Ok(())
 }
 
 #[test]
 fn include_line_in_a_function_is_told(rt: HostRuntime) {
-    let fault = tree_of(rt.alloc(), b"int f(){\n #include <stdio.h>\n}");
-    assert!(rt;
-        matches!(
-            fault,
-            Err(CFault::Bad(Reason {
-                line: 2,
-                column: 2,
-                rule: 5,
-                ..
-            }))
-        )
-    );
+    let answer = tree_of(rt.alloc(), b"int f(){\n #include <stdio.h>\n}");
+    assert_eq!(rt; told(&answer), Some((2, 2, 5)));
 }

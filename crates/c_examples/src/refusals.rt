@@ -1,10 +1,8 @@
 //! Sources that are refused, each with the first token that continues no program.
 
-use crate::trees::{joined, tree_of};
-use c_tree::CFault;
-use std::alloc::{AllocError, Global};
-use std::test::Fail;
-use vp_io::Reason;
+use crate::page::Page;
+use crate::sources::{told, tree_of};
+use std::alloc::Global;
 
 /// What stands before the token that is told, the source from there on, and the rule that it breaks.
 type Refused = (&'static [u8], &'static [u8], u8);
@@ -211,43 +209,31 @@ const TOKENS: [Refused; 16] = [
     ),
 ];
 
-/// The rule that a source breaks, with the column where it does, on the first line.
-pub fn refusal(alloc: Global, source: &[u8]) -> Option<(usize, u8)> {
-    match tree_of(alloc, source) {
-        Err(
-            CFault::Bad(
-                Reason {
-                    line: 1,
-                    column,
-                    rule,
-                    ..
-                },
-            ),
-        ) => Some((column as usize, rule)),
-        _ => None,
+/// Whether the rule is told where the source goes on.
+fn is_told(alloc: Global, refused: &Refused) -> bool {
+    let (before, rest, rule) = *refused;
+    let mut page = Page::new(alloc);
+    page.put(before);
+    page.put(rest);
+    match (page.text(), u32::try_from(before.len() + 1)) {
+        (Some(source), Ok(column)) => told(&tree_of(alloc, source)) == Some((1, column, rule)),
+        _ => false,
     }
 }
 
-fn is_told(alloc: Global, refused: &Refused) -> Result<bool, AllocError> {
-    let (before, rest, rule) = *refused;
-    let source = joined(alloc, &[before, rest])?;
-    Ok(refusal(alloc, &source) == Some((before.len() + 1, rule)))
-}
+const TABLES: [&[Refused]; 5] = [
+    &IN_DECLARATIONS,
+    &IN_OPERATORS,
+    &IN_EXPRESSIONS,
+    &IN_STATEMENTS,
+    &TOKENS,
+];
 
 #[test]
-fn first_bad_token_is_told(rt: HostRuntime) -> Result<(), Fail> {
+fn first_bad_token_is_told(rt: HostRuntime) {
     let alloc = rt.alloc();
-    let tables: [&[Refused]; 5] = [
-        &IN_DECLARATIONS,
-        &IN_OPERATORS,
-        &IN_EXPRESSIONS,
-        &IN_STATEMENTS,
-        &TOKENS,
-    ];
-    for table in tables {
-        for refused in table {
-            assert!(rt; is_told(alloc, refused)?);
-        }
+    for (table, rows) in TABLES.iter().enumerate() {
+        let wrong = rows.iter().position(|refused| !is_told(alloc, refused));
+        assert_eq!(rt; wrong, None, "table {table}");
     }
-    Ok(())
 }

@@ -1,39 +1,41 @@
 //! Which tree a source has.
 
-use crate::printed::printed;
-use c_tree::{CFault, Syntax};
-use std::alloc::{AllocError, Global};
-use std::test::Fail;
+use crate::page::Page;
+use crate::printed::is_printed;
+use crate::sources::tree_of;
+use std::alloc::Global;
 
-/// The tree of a source, which these examples keep short.
-pub fn tree_of(alloc: Global, source: &[u8]) -> Result<Syntax, CFault> {
-    if source.len() > 10_000 {
-        return Err(CFault::NoMemory);
-    }
-    c_source::tree_of(alloc, source)
-}
-
-/// The tree of a source as text; nothing where there is none.
-pub fn shown(alloc: Global, source: &[u8]) -> Result<Vec<u8>, AllocError> {
+/// Whether a source has the tree that is printed so.
+fn has_tree(alloc: Global, source: &[u8], text: &[u8]) -> bool {
     match tree_of(alloc, source) {
-        Ok(tree) => printed(alloc, &tree),
-        Err(_) => Ok(Vec::new(alloc)),
+        Ok(tree) => is_printed(alloc, &tree, text),
+        Err(_) => false,
     }
 }
 
-pub fn joined(alloc: Global, parts: &[&[u8]]) -> Result<Vec<u8>, AllocError> {
-    let mut text = Vec::new(alloc);
-    for part in parts {
-        text.extend_from_slice(part)?;
+/// A function with these statements.
+fn function(alloc: Global, statements: &[u8]) -> Page {
+    let mut page = Page::new(alloc);
+    page.put(b"int f(){");
+    page.put(statements);
+    page.put(b"}");
+    page
+}
+
+/// Whether a function's statements have the tree that is printed so.
+fn has_statements(alloc: Global, statements: &[u8], text: &[u8]) -> bool {
+    let source = function(alloc, statements);
+    let expected = function(alloc, text);
+    match (source.text(), expected.text()) {
+        (Some(source), Some(expected)) => has_tree(alloc, source, expected),
+        _ => false,
     }
-    Ok(text)
 }
 
-fn in_function(alloc: Global, statements: &[u8]) -> Result<Vec<u8>, AllocError> {
-    joined(alloc, &[b"int f(){", statements, b"}"])
-}
+/// A source, and its tree as text.
+type Row = (&'static [u8], &'static [u8]);
 
-const STATEMENTS: [(&[u8], &[u8]); 76] = [
+const STATEMENTS: [Row; 76] = [
     (b"a+b*c;", b"(a + (b * c));"),
     (b"a*b+c;", b"((a * b) + c);"),
     (b"a-b-c;", b"((a - b) - c);"),
@@ -139,17 +141,6 @@ const STATEMENTS: [(&[u8], &[u8]); 76] = [
     (b"continue;break;a;", b"continue;break;a;"),
 ];
 
-#[test]
-fn statements_have_trees(rt: HostRuntime) -> Result<(), Fail> {
-    let alloc = rt.alloc();
-    for (source, tree) in STATEMENTS {
-        let source = in_function(alloc, source)?;
-        let tree = in_function(alloc, tree)?;
-        assert_eq!(rt; shown(alloc, &source)?, tree);
-    }
-    Ok(())
-}
-
 /// Counts the letters of a line, and writes them backwards.
 const LETTERS: &[u8] = b"#include <stdio.h>
 int count[26];
@@ -182,7 +173,7 @@ int main(void)
 const LETTERS_TREE: &[u8] =
     b"#int count[26];char line[16];int main(void){int c, n, i;(n = 0#);while((<(c = getchar())> != EOF))[{switch(c){case '32':[case '10':[break;]]default:[if(((c >= '97') && (c <= '122')))[{(count[(c - '97')]++);if((n < 16))[(line[(n++)] = c);]}]]}}]for((i = 0#);(i < 26);(i++))[if((count[i] > 1))[{putchar(('97' + i));putchar(('48' + (count[i] % 10)));}]]putchar('10');for((i = (n - 1));(i >= 0#);(i--))[putchar(line[i]);]putchar('10');return n;}";
 
-const PROGRAMS: [(&[u8], &[u8]); 14] = [
+const PROGRAMS: [Row; 14] = [
     (b"int main(void){return 1;}", b"int main(void){return 1;}"),
     (
         b"char signed a;unsigned char b;char unsigned c;",
@@ -215,10 +206,19 @@ const PROGRAMS: [(&[u8], &[u8]); 14] = [
 ];
 
 #[test]
-fn programs_have_trees(rt: HostRuntime) -> Result<(), Fail> {
+fn statements_have_trees(rt: HostRuntime) {
     let alloc = rt.alloc();
-    for (source, tree) in PROGRAMS {
-        assert_eq!(rt; shown(alloc, source)?.as_slice(), tree);
-    }
-    Ok(())
+    let wrong = STATEMENTS
+        .iter()
+        .position(|row| !has_statements(alloc, row.0, row.1));
+    assert_eq!(rt; wrong, None);
+}
+
+#[test]
+fn programs_have_trees(rt: HostRuntime) {
+    let alloc = rt.alloc();
+    let wrong = PROGRAMS
+        .iter()
+        .position(|row| !has_tree(alloc, row.0, row.1));
+    assert_eq!(rt; wrong, None);
 }

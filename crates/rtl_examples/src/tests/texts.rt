@@ -1,74 +1,60 @@
 //! Texts with their transfers and faults, worked out by hand.
 
+ghost use Rattle.rtl_spelling.specs.Spelling.{AreApart};
+
 use super::names;
 use rtl_text::TextFault::{BadForm, BadToken, IllFormed, TooDeep};
 use rtl_text::{OpenHole, TextFault, print_transfer, read_holed, read_transfer};
-use rtl_tree::{Cell, Effects, Expr, NoMemory, Place, Width};
+use rtl_tree::{Cell, Effects, Expr, Names, Place, Width};
 use rtl_word::{W16, W32, Word};
 use std::alloc::Global;
 use std::test::Fail;
 
+/// Whether there was memory to add a hole.
+fn add_hole(alloc: Global, holes: &mut Vec<OpenHole>, name: &[u8], leaf: Expr) -> bool {
+    match Vec::from_slice(alloc, name) {
+        Ok(name) => holes.push(OpenHole { name, leaf }).is_ok(),
+        Err(_) => false,
+    }
+}
+
 /// The register 3 as `d`, the number 5 as `k`, a register that is left open as `h` and such a number as `n`.
-fn holes(alloc: Global) -> Result<Vec<OpenHole>, NoMemory> {
+fn holes(alloc: Global) -> Option<Vec<OpenHole>> {
     let mut holes = Vec::new(alloc);
-    for (name, leaf) in [
-        (b"d".as_slice(), Expr::Cell(Cell::Hard(3))),
-        (b"k".as_slice(), Expr::Num(5)),
-        (b"h".as_slice(), Expr::Cell(Cell::Hole(0))),
-        (b"n".as_slice(), Expr::NumHole(0)),
-    ] {
-        let name = Vec::from_slice(alloc, name)?;
-        holes.push(OpenHole { name, leaf })?;
-    }
-    Ok(holes)
+    let is_whole = add_hole(alloc, &mut holes, b"d", Expr::Cell(Cell::Hard(3)))
+        & add_hole(alloc, &mut holes, b"k", Expr::Num(5))
+        & add_hole(alloc, &mut holes, b"h", Expr::Cell(Cell::Hole(0)))
+        & add_hole(alloc, &mut holes, b"n", Expr::NumHole(0));
+    if is_whole { Some(holes) } else { None }
 }
 
-fn fault<W: Word>(alloc: Global, text: &[u8]) -> Result<Option<TextFault>, NoMemory> {
-    let names = names(alloc)?;
-    match read_transfer::<W>(alloc, text, &names) {
-        Ok(_) => Ok(None),
-        Err(fault) => Ok(Some(fault)),
-    }
+fn fault<W: Word>(alloc: Global, names: &Names, text: &[u8]) -> Option<TextFault>
+    requires { AreApart names.now.objects names.now.functions }
+{
+    read_transfer::<W>(alloc, text, names).err()
 }
 
-fn holed_fault(alloc: Global, text: &[u8]) -> Result<Option<TextFault>, NoMemory> {
-    let names = names(alloc)?;
-    let holes = holes(alloc)?;
-    match read_holed::<W16>(alloc, text, &names, &holes) {
-        Ok(_) => Ok(None),
-        Err(fault) => Ok(Some(fault)),
-    }
-}
-
-/// What is printed for the transfer that a text spells; nothing if it spells none.
-fn reprinted<W: Word>(alloc: Global, text: &[u8]) -> Result<Vec<u8>, NoMemory> {
-    let names = names(alloc)?;
-    let mut out = Vec::new(alloc);
-    match read_transfer::<W>(alloc, text, &names) {
-        Ok(effects) => print_transfer::<W>(alloc, &effects, &names, &mut out)?,
-        Err(_) => {}
-    }
-    Ok(out)
-}
-
-/// A number under `count` negations, between two texts.
-fn nested(
+fn holed_fault(
     alloc: Global,
-    before: &[u8],
-    count: u32,
-    leaf: &[u8],
-    behind: &[u8],
-) -> Result<Vec<u8>, NoMemory> {
-    let mut text = Vec::from_slice(alloc, before)?;
-    for _ in 0..count {
-        text.extend_from_slice(b"(neg ")?;
-    }
-    text.extend_from_slice(leaf)?;
-    for _ in 0..count {
-        text.push(b')')?;
-    }
-    text.extend_from_slice(behind)?;
-    Ok(text)
+    names: &Names,
+    holes: &Vec<OpenHole>,
+    text: &[u8],
+) -> Option<TextFault>
+    requires { AreApart names.now.objects names.now.functions }
+{
+    read_holed::<W16>(alloc, text, names, holes).err()
+}
+
+/// Whether the transfer that a text spells is printed as it was read.
+fn is_reprinted<W: Word>(alloc: Global, names: &Names, text: &[u8]) -> bool
+    requires { AreApart names.now.objects names.now.functions }
+{
+    let Ok(effects) = read_transfer::<W>(alloc, text, names) else {
+        return false;
+    };
+    let mut out = Vec::new(alloc);
+    let printed = print_transfer::<W>(alloc, &effects, names, &mut out);
+    printed.is_ok() && out.as_slice() == text
 }
 
 /// Texts that spell no transfer by words of 16 bits, each with its fault.
@@ -182,35 +168,60 @@ const DEPTHS: [(&[u8], u32, &[u8], &[u8], Option<TextFault>); 5] = [
     (b"r[1] = ", 32, b"lost", b"", Some(BadForm(167))),
 ];
 
+/// Whether there was memory to add a text so many times.
+fn add(text: &mut Vec<u8>, bytes: &[u8], count: u32) -> bool {
+    let mut is_whole = true;
+    for _ in 0..count {
+        is_whole &= text.extend_from_slice(bytes).is_ok();
+    }
+    is_whole
+}
+
+fn has_depth(
+    alloc: Global,
+    names: &Names,
+    row: &(&[u8], u32, &[u8], &[u8], Option<TextFault>),
+) -> bool
+    requires { AreApart names.now.objects names.now.functions }
+{
+    let (before, count, leaf, behind, expected) = *row;
+    let mut text = Vec::new(alloc);
+    let is_whole = add(&mut text, before, 1)
+        & add(&mut text, b"(neg ", count)
+        & add(&mut text, leaf, 1)
+        & add(&mut text, b")", count)
+        & add(&mut text, behind, 1);
+    is_whole && fault::<W16>(alloc, names, text.as_slice()) == expected
+}
+
 #[test]
 fn faults_have_their_places(rt: HostRuntime) -> Result<(), Fail> {
     let alloc = rt.alloc();
-    for (text, expected) in FAULTS {
-        assert_eq!(rt; fault::<W16>(alloc, text)?, Some(expected));
-    }
-    for text in ILL_FORMED {
-        assert_eq!(rt; fault::<W16>(alloc, text)?, Some(IllFormed));
-    }
-    for (text, expected) in LONG_NUMBERS {
-        assert_eq!(rt; fault::<W32>(alloc, text)?, expected);
-    }
-    for (text, expected) in HOLED {
-        assert_eq!(rt; holed_fault(alloc, text)?, expected);
-    }
-    for (before, count, leaf, behind, expected) in DEPTHS {
-        let text = nested(alloc, before, count, leaf, behind)?;
-        assert_eq!(rt; fault::<W16>(alloc, text.as_slice())?, expected);
-    }
+    let names = names(alloc)?;
+    let wrong = FAULTS
+        .iter()
+        .position(|row| fault::<W16>(alloc, &names, row.0) != Some(row.1));
+    assert_eq!(rt; wrong, None, "faults");
+    let wrong = ILL_FORMED.iter().position(|text| fault::<W16>(alloc, &names, text)
+        != Some(IllFormed));
+    assert_eq!(rt; wrong, None, "ill formed");
+    let wrong = LONG_NUMBERS
+        .iter()
+        .position(|row| fault::<W32>(alloc, &names, row.0) != row.1);
+    assert_eq!(rt; wrong, None, "long numbers");
+    let wrong = DEPTHS.iter().position(|row| !has_depth(alloc, &names, row));
+    assert_eq!(rt; wrong, None, "depths");
     Ok(())
 }
 
 #[test]
 fn what_was_read_is_printed(rt: HostRuntime) -> Result<(), Fail> {
     let alloc = rt.alloc();
-    for text in PRINTED {
-        assert_eq!(rt; reprinted::<W16>(alloc, text)?.as_slice(), text);
-        assert_eq!(rt; reprinted::<W32>(alloc, text)?.as_slice(), text);
-    }
+    let names = names(alloc)?;
+    let wrong = PRINTED.iter().position(|text| {
+        !is_reprinted::<W16>(alloc, &names, text) || !is_reprinted::<W32>(alloc, &names, text)
+    });
+    assert_eq!(rt; wrong, None);
     Ok(())
 }
 
@@ -225,14 +236,27 @@ fn stores_five(effects: &Effects) -> bool {
     }
 }
 
+/// Whether a text spells that assignment.
+fn spells_store(alloc: Global, names: &Names, holes: &Vec<OpenHole>, text: &[u8]) -> bool
+    requires { AreApart names.now.objects names.now.functions }
+{
+    match read_holed::<W32>(alloc, text, names, holes) {
+        Ok(effects) => stores_five(&effects),
+        Err(_) => false,
+    }
+}
+
 #[test]
 fn a_hole_becomes_its_leaf(rt: HostRuntime) -> Result<(), Fail> {
     let alloc = rt.alloc();
     let names = names(alloc)?;
-    let holes = holes(alloc)?;
-    let Ok(effects) = read_holed::<W32>(alloc, b"M[<d>] = <k>", &names, &holes) else {
-        panic!(rt; "a text with holes was refused");
+    let Some(holes) = holes(alloc) else {
+        panic!(rt; "no memory");
     };
-    assert!(rt; stores_five(&effects));
+    let wrong = HOLED
+        .iter()
+        .position(|row| holed_fault(alloc, &names, &holes, row.0) != row.1);
+    assert_eq!(rt; wrong, None);
+    assert!(rt; spells_store(alloc, &names, &holes, b"M[<d>] = <k>"));
     Ok(())
 }

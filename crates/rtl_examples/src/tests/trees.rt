@@ -1,13 +1,12 @@
 //! Small trees, sets and lists of names, with answers worked out by hand.
 
 use super::substitution::value;
-use rtl_text::TextFault;
+use super::{no_names, one_name};
+use rtl_text::read_transfer;
 use rtl_tree::{
-    Assign, Cell, CellSet, Effects, Expr, Name, NameList, NoMemory, Place, UnOp, Width, alike,
-    copy, is_name, same, take, well_formed,
+    Cell, CellSet, Expr, NameList, Place, alike, copy, is_name, same, substitute, take, well_formed,
 };
-use rtl_word::Rel;
-use smallvec::SmallVec;
+use rtl_word::W16;
 use std::alloc::Global;
 use std::test::Fail;
 
@@ -19,113 +18,125 @@ const PAIRS: [(&str, &str, bool, bool); 4] = [
     ("r[3] = (r[1] - 2)", "r[3] = (2 - r[1])", false, false),
 ];
 
-/// Whether the values of two transfers are equal, and whether they are alike.
-fn compared(alloc: Global, left: &str, right: &str) -> Result<(bool, bool), TextFault> {
-    let a = value(alloc, left)?;
-    let b = value(alloc, right)?;
-    Ok((same(&a, &b), alike(&a, &b)))
+/// Whether a tree and the value of a transfer are equal, and alike, as it is said.
+fn are_compared(alloc: Global, left: &Expr, row: &(&str, &str, bool, bool)) -> bool {
+    match value(alloc, row.1) {
+        Ok(right) => same(left, &right) == row.2 && alike(left, &right) == row.3,
+        Err(_) => false,
+    }
+}
+
+/// Whether a tree is taken away, and 0 left.
+fn is_taken(alloc: Global, e: &mut Expr) -> bool {
+    let Ok(other) = copy(alloc, e) else {
+        return false;
+    };
+    let taken = take(e);
+    same(e, &Expr::Num(0)) && same(&taken, &other)
 }
 
 #[test]
 fn trees_are_taken_copied_and_compared(rt: HostRuntime) -> Result<(), Fail> {
     let alloc = rt.alloc();
-    for (left, right, equal, matching) in PAIRS {
-        assert_eq!(rt;
-            compared(alloc, left, right)?,
-            (equal, matching),
-            "{left} {right}"
-        );
-    }
+    let wrong = PAIRS.iter().position(|row| match value(alloc, row.0) {
+        Ok(left) => !are_compared(alloc, &left, row),
+        Err(_) => true,
+    });
+    assert_eq!(rt; wrong, None);
     let mut sum = value(alloc, "r[3] = (r[1] + 2)")?;
-    let other = copy(alloc, &sum)?;
-    let taken = take(&mut sum);
-    assert!(rt; same(&sum, &Expr::Num(0)));
-    assert!(rt; same(&taken, &other));
+    assert!(rt; is_taken(alloc, &mut sum));
     Ok(())
 }
 
-/// A leaf under so many negations.
-fn negations(alloc: Global, count: u32) -> Result<Expr, NoMemory> {
-    let mut e = Expr::Num(1);
-    for _ in 0..count {
-        e = Expr::Un(UnOp::Neg, Box::new(alloc, e)?);
+/// A transfer, the cell for which the value of another one is put so many times in its first assignment, and whether it is well
+/// formed then.
+type Grown = (&'static str, Cell, &'static str, u32, bool);
+
+const GROWN: [Grown; 5] = [
+    ("r[0] = r[1]", Cell::Hard(1), "r[3] = (neg r[1])", 31, true),
+    ("r[0] = r[1]", Cell::Hard(1), "r[3] = (neg r[1])", 32, false),
+    ("M[r[1]] = 0", Cell::Hard(1), "r[3] = (neg r[1])", 30, true),
+    ("M[r[1]] = 0", Cell::Hard(1), "r[3] = (neg r[1])", 31, false),
+    ("r[0] = (f[0] lt)", Cell::Flag(0), "r[3] = r[1]", 1, false),
+];
+
+/// Whether there was memory to put a tree so many times for a cell.
+fn grow(alloc: Global, e: &mut Expr, row: &Grown, by: &Expr) -> bool {
+    let mut is_whole = true;
+    for _ in 0..row.3 {
+        is_whole &= substitute(alloc, e, row.1, by).is_ok();
     }
-    Ok(e)
+    is_whole
 }
 
-/// Whether the transfer of this one assignment is well formed.
-fn may_stand(alloc: Global, to: Place, value: Expr) -> Result<bool, NoMemory> {
-    let mut list = SmallVec::new(alloc);
-    list.push(Assign { to, value })?;
-    Ok(well_formed(&Effects { list }))
+fn grow_address(alloc: Global, to: &mut Place, row: &Grown, by: &Expr) -> bool {
+    match to {
+        Place::Mem(_, at) => grow(alloc, at, row, by),
+        Place::Cell(_) => true,
+    }
 }
 
-/// Whether a number may be stored at so many negations of another.
-fn may_be_address(alloc: Global, count: u32) -> Result<bool, NoMemory> {
-    let at = negations(alloc, count)?;
-    may_stand(alloc, Place::Mem(Width::Full, at), Expr::Num(0))
-}
-
-/// Whether the register may hold the test of a register.
-fn may_be_tested(alloc: Global) -> Result<bool, NoMemory> {
-    let register = Box::new(alloc, Expr::Cell(Cell::Hard(1)))?;
-    let test = Expr::Un(UnOp::Test(Rel::Lt), register);
-    may_stand(alloc, Place::Cell(Cell::Hard(0)), test)
+fn is_grown(alloc: Global, row: &Grown, by: &Expr) -> bool {
+    let Ok(mut transfer) = read_transfer::<W16>(alloc, row.0.as_bytes(), &no_names(alloc)) else {
+        return false;
+    };
+    let first = &mut transfer.list[0];
+    let is_whole = grow_address(alloc, &mut first.to, row, by)
+        & grow(alloc, &mut first.value, row, by);
+    is_whole && well_formed(&transfer) == row.4
 }
 
 #[test]
-fn transfers_that_no_text_spells(rt: HostRuntime) -> Result<(), Fail> {
+fn transfers_that_no_text_spells(rt: HostRuntime) {
     let alloc = rt.alloc();
-    let register = Place::Cell(Cell::Hard(0));
-    assert!(rt; may_stand(alloc, register, negations(alloc, 31)?)?);
-    let register = Place::Cell(Cell::Hard(0));
-    assert!(rt; !may_stand(alloc, register, negations(alloc, 32)?)?);
-    assert!(rt; may_be_address(alloc, 30)?);
-    assert!(rt; !may_be_address(alloc, 31)?);
-    assert!(rt; !may_be_tested(alloc)?);
-    Ok(())
+    let wrong = GROWN.iter().position(|row| match value(alloc, row.2) {
+        Ok(by) => !is_grown(alloc, row, &by),
+        Err(_) => true,
+    });
+    assert_eq!(rt; wrong, None);
 }
+
+const CELLS: [(Cell, bool); 10] = [
+    (Cell::Hard(5), true),
+    (Cell::Hard(4), false),
+    (Cell::Hard(69), false),
+    (Cell::Flag(7), true),
+    (Cell::Flag(15), false),
+    (Cell::Temp(127), true),
+    (Cell::Temp(63), false),
+    (Cell::Temp(191), false),
+    (Cell::Pc, false),
+    (Cell::Hole(5), false),
+];
 
 #[test]
 fn a_set_has_its_cells(rt: HostRuntime) {
     let temps = [0u64, 1 << 63];
     let set = CellSet::of(1 << 5, 1 << 7, &temps);
-    let table = [
-        (Cell::Hard(5), true),
-        (Cell::Hard(4), false),
-        (Cell::Hard(69), false),
-        (Cell::Flag(7), true),
-        (Cell::Flag(15), false),
-        (Cell::Temp(127), true),
-        (Cell::Temp(63), false),
-        (Cell::Temp(191), false),
-        (Cell::Pc, false),
-        (Cell::Hole(5), false),
-    ];
-    for (cell, is_there) in table {
-        assert_eq!(rt; set.has(cell), is_there, "{cell:?}");
-    }
+    let wrong = CELLS.iter().position(|row| set.has(row.0) != row.1);
+    assert_eq!(rt; wrong, None);
+}
+
+const NAMES: [(&[u8], bool); 6] = [
+    (b"_a1", true),
+    (b"", false),
+    (b"1a", false),
+    (b"a.b", false),
+    (&[b'x'; 63], true),
+    (&[b'x'; 64], false),
+];
+
+#[test]
+fn names_are_told(rt: HostRuntime) {
+    let wrong = NAMES.iter().position(|row| is_name(row.0) != row.1);
+    assert_eq!(rt; wrong, None);
 }
 
 #[test]
 fn names_are_kept_in_order(rt: HostRuntime) -> Result<(), Fail> {
     let alloc = rt.alloc();
-    let table = [
-        (b"_a1".as_slice(), true),
-        (b"".as_slice(), false),
-        (b"1a".as_slice(), false),
-        (b"a.b".as_slice(), false),
-        ([b'x'; 63].as_slice(), true),
-        ([b'x'; 64].as_slice(), false),
-    ];
-    for (bytes, is_one) in table {
-        assert_eq!(rt; is_name(bytes), is_one);
-    }
-    let mut names = NameList::new(alloc);
-    let bytes = Vec::from_array(alloc, [b'm', b'a', b'i', b'n'])?;
-    assert!(rt; is_name(&bytes));
-    assert_eq!(rt; names.find(b"main"), None);
-    names.push(Name::new(bytes))?;
+    assert_eq!(rt; NameList::new(alloc).find(b"main"), None);
+    let mut names = one_name(alloc, b"main")?;
     assert_eq!(rt; names.find(b"main"), Some(0));
     assert_eq!(rt; names.len(), 1);
     assert!(rt; names.get(1).is_none());

@@ -1,53 +1,77 @@
 //! Values worked out by hand.
 
+ghost use Rattle.rtl_spelling.specs.Spelling.{AreApart};
+
 use super::names;
-use rtl_text::{TextFault, read_transfer};
-use rtl_tree::{BinOp, Lab, NoMemory};
+use rtl_text::read_transfer;
+use rtl_tree::{BinOp, Expr, Lab, Names};
 use rtl_value::{
     Bytes, FlagPair, Flags, LabelAt, Labels, State, Trap, Words, apply_binary, is_readable,
     is_sound, value,
 };
 use rtl_word::{W16, W32, Word};
 use std::alloc::Global;
-use std::process::Abort;
 use std::test::Fail;
 
-/// Register 1 holds 6, flag 2 the pair 1, 2, and memory 8 bytes; the input is at its end.
-fn state(alloc: Global) -> Result<State, NoMemory> {
-    let mut registers = Vec::new(alloc);
-    for n in 0..64u32 {
-        registers.push(if n == 1 { 6 } else { 0 })?;
-    }
-    let mut flags = Vec::new(alloc);
-    for n in 0..8u32 {
-        flags.push(if n == 2 {
-            Some(FlagPair { left: 1, right: 2 })
-        } else {
-            None
-        })?;
-    }
-    let place = LabelAt {
-        label: Lab::Block(4),
-        at: 9,
+const REGISTERS: [u32; 64] = [
+    0, 6, 0, 0, 0, 0, 0, 0, 0, 0, 0, 0, 0, 0, 0, 0, 0, 0, 0, 0, 0, 0, 0, 0, 0, 0, 0, 0, 0, 0, 0, 0,
+    0, 0, 0, 0, 0, 0, 0, 0, 0, 0, 0, 0, 0, 0, 0, 0, 0, 0, 0, 0, 0, 0, 0, 0, 0, 0, 0, 0, 0, 0, 0, 0,
+];
+
+const FLAGS: [Option<FlagPair>; 8] = [
+    None,
+    None,
+    Some(FlagPair { left: 1, right: 2 }),
+    None,
+    None,
+    None,
+    None,
+    None,
+];
+
+const MEMORY: [u8; 8] = [1, 2, 3, 4, 5, 6, 7, 0xff];
+
+const PLACE: LabelAt = LabelAt {
+    label: Lab::Block(4),
+    at: 9,
+};
+
+fn empty_state(alloc: Global) -> State {
+    let words = Words {
+        list: Vec::new(alloc),
     };
-    Ok(State {
-        registers: Words { list: registers },
+    State {
+        registers: words,
         temps: Words {
-            list: Vec::from_array(alloc, [3])?,
+            list: Vec::new(alloc),
         },
-        flags: Flags { list: flags },
+        flags: Flags {
+            list: Vec::new(alloc),
+        },
         next_place: 5,
         memory: Bytes {
-            list: Vec::from_array(alloc, [1, 2, 3, 4, 5, 6, 7, 0xff])?,
+            list: Vec::new(alloc),
         },
         input: None,
         symbols: Words {
-            list: Vec::from_array(alloc, [4])?,
+            list: Vec::new(alloc),
         },
         labels: Labels {
-            list: Vec::from_array(alloc, [place])?,
+            list: Vec::new(alloc),
         },
-    })
+    }
+}
+
+/// Register 1 holds 6, flag 2 the pair 1, 2, and memory 8 bytes; the input is at its end.
+fn state(alloc: Global) -> Option<State> {
+    let mut s = empty_state(alloc);
+    let is_whole = s.registers.list.extend_from_slice(&REGISTERS).is_ok()
+        & s.temps.list.push(3).is_ok()
+        & s.flags.list.extend_from_slice(&FLAGS).is_ok()
+        & s.memory.list.extend_from_slice(&MEMORY).is_ok()
+        & s.symbols.list.push(4).is_ok()
+        & s.labels.list.push(PLACE).is_ok();
+    if is_whole { Some(s) } else { None }
 }
 
 /// Transfers, and the values of their right sides in the state above, of 16 bits and of 32. Of two traps the one of the left operand
@@ -77,28 +101,41 @@ const VALUES: [(&str, Result<u32, Trap>, Result<u32, Trap>); 18] = [
     ),
 ];
 
-/// The value of the first right side that the text spells.
-fn found<W: Word>(
-    rt: &impl Abort,
+/// Whether a tree has this value in a state.
+fn has_value<W: Word>(s: &State, e: &Expr, expected: Result<u32, Trap>) -> bool {
+    is_sound::<W>(s) && is_readable::<W>(e, s) && value::<W>(e, s) == expected
+}
+
+/// Whether the first right side that a text spells has this value.
+fn spells_value<W: Word>(
     alloc: Global,
+    names: &Names,
+    s: &State,
     text: &str,
-) -> Result<Result<u32, Trap>, TextFault> {
-    let s = state(alloc)?;
-    let transfer = read_transfer::<W>(alloc, text.as_bytes(), &names(alloc)?)?;
-    let assignment = &transfer.list[0];
-    let e = &assignment.value;
-    assert!(rt; is_sound::<W>(&s));
-    assert!(rt; is_readable::<W>(e, &s));
-    Ok(value::<W>(e, &s))
+    expected: Result<u32, Trap>,
+) -> bool
+    requires { AreApart names.now.objects names.now.functions }
+{
+    match read_transfer::<W>(alloc, text.as_bytes(), names) {
+        Ok(transfer) => {
+            let first = &transfer.list[0];
+            has_value::<W>(s, &first.value, expected)
+        }
+        Err(_) => false,
+    }
 }
 
 #[test]
 fn values_in_a_state(rt: HostRuntime) -> Result<(), Fail> {
     let alloc = rt.alloc();
-    for (text, short, long) in VALUES {
-        assert_eq!(rt; found::<W16>(&rt, alloc, text)?, short, "{text}");
-        assert_eq!(rt; found::<W32>(&rt, alloc, text)?, long, "{text}");
-    }
+    let names = names(alloc)?;
+    let Some(s) = state(alloc) else {
+        panic!(rt; "no memory");
+    };
+    let short = VALUES.iter().position(|row| !spells_value::<W16>(alloc, &names, &s, row.0, row.1));
+    assert_eq!(rt; short, None);
+    let long = VALUES.iter().position(|row| !spells_value::<W32>(alloc, &names, &s, row.0, row.2));
+    assert_eq!(rt; long, None);
     assert_eq!(rt; apply_binary::<W16>(BinOp::Divu, 7, 0), Err(Trap::Divide));
     Ok(())
 }

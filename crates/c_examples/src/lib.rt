@@ -1,9 +1,10 @@
 //! The front end of C by example: the tokens, the tree or the refusal of sources, and the sizes of typed trees, each worked out by
 //! hand.
 //!
-//! Tests are proved, so their form decides what they cost. A cheap module has its rows in a constant of plain literals, one
-//! function that tells whether a row holds (it owns one tree at most, and answers `bool`), and a test that looks for the first row
-//! that doesn't, by `iter().position(..)`. Trees are compared by what they print on a [`page::Page`], which no call leaves early.
+//! Tests are proved, so their form decides what they cost. A table is a constant of rows that are plain literals; the type of its
+//! rows has a [`rows::Row`], which owns one tree at most and answers `bool`; and the test is one call of [`rows::check`]. Trees are
+//! compared by what they print on a [`page::Page`], which no call leaves early. A closure, an `assert_eq!` or a `?` in each test
+//! would cost more than the row's own function.
 #![tactic(auto)]
 
 #[cfg(test)]
@@ -22,6 +23,8 @@ mod places;
 mod printed;
 #[cfg(test)]
 mod refusals;
+#[cfg(test)]
+mod rows;
 #[cfg(test)]
 mod sources;
 #[cfg(test)]

@@ -1,5 +1,6 @@
 //! Frames, weights and limits of trees that are put together by hand.
 
+use crate::rows::{Row, check};
 use crate::sources::{Told, place_of};
 use c_limits::{frame_of, weight_of, within};
 use c_tree::syntax::BinaryOperator;
@@ -92,9 +93,16 @@ fn conditional(alloc: Global, test: Tree, then: Option<Boxed<Stat>>) -> Option<B
 
 /// The statement behind the others.
 fn also(statements: Statements, s: Option<Boxed<Stat>>) -> Statements {
-    let mut statements = statements?;
-    statements.push(s?).ok()?;
-    Some(statements)
+    match (statements, s) {
+        (Some(mut statements), Some(s)) => {
+            if statements.push(s).is_ok() {
+                Some(statements)
+            } else {
+                None
+            }
+        }
+        _ => None,
+    }
 }
 
 fn one_object(alloc: Global, element: CType, length: Option<u32>) -> Objects {
@@ -235,34 +243,35 @@ fn typed(alloc: Global, example: Example, length: Option<u32>) -> Option<Typed> 
     Some(Typed { statics, functions })
 }
 
-/// Each with its frame for words of 16 bits and of 32 bits, and its weight.
-const MEASURES: [(Example, u64, u64, u64); 6] = [
-    (Example::Empty, 46, 92, 48),
-    (Example::Returning, 50, 100, 53),
-    (Example::WithArray(8_000), 16_050, 32_100, 53),
-    (Example::Recursive, 68, 136, 91),
-    (Example::Calling, 54, 108, 60),
-    (Example::Converting, 66, 132, 60),
-];
+/// A function with its frame for words of 16 bits and of 32 bits, and its weight.
+struct Measured(Example, u64, u64, u64);
 
-fn is_measured(alloc: Global, row: &(Example, u64, u64, u64)) -> bool {
-    let (example, short, long, weight) = *row;
-    match built(alloc, example) {
-        Some(f) => {
-            let short_found = frame_of::<W16>(&f);
-            let long_found = frame_of::<W32>(&f);
-            let weight_found = weight_of(&f);
-            short_found == short && long_found == long && weight_found == weight
+impl Row for Measured {
+    fn holds(&self, alloc: Global) -> bool {
+        match built(alloc, self.0) {
+            Some(f) => {
+                let short = frame_of::<W16>(&f);
+                let long = frame_of::<W32>(&f);
+                let weight = weight_of(&f);
+                short == self.1 && long == self.2 && weight == self.3
+            }
+            None => false,
         }
-        None => false,
     }
 }
 
+const MEASURES: [Measured; 6] = [
+    Measured(Example::Empty, 46, 92, 48),
+    Measured(Example::Returning, 50, 100, 53),
+    Measured(Example::WithArray(8_000), 16_050, 32_100, 53),
+    Measured(Example::Recursive, 68, 136, 91),
+    Measured(Example::Calling, 54, 108, 60),
+    Measured(Example::Converting, 66, 132, 60),
+];
+
 #[test]
 fn frames_and_weights(rt: HostRuntime) {
-    let alloc = rt.alloc();
-    let wrong = MEASURES.iter().position(|row| !is_measured(alloc, row));
-    assert_eq!(rt; wrong, None);
+    check(&rt, rt.alloc(), &MEASURES);
 }
 
 #[derive(Clone, Copy)]
@@ -282,24 +291,35 @@ fn told_on(machine: Machine, t: &Typed) -> Told {
     }
 }
 
-/// A function with a static char array of this length, and the limit that is passed on a machine, with its column.
-const LIMITS: [(Example, Option<u32>, Machine, Told); 6] = [
-    (Example::WithArray(8_000), None, Machine::Pdp11, None),
-    (
+/// A function with a static char array of this length, and the limit that is passed on a machine.
+struct Limited(Example, Option<u32>, Machine, Told);
+
+impl Row for Limited {
+    fn holds(&self, alloc: Global) -> bool {
+        match typed(alloc, self.0, self.1) {
+            Some(t) => told_on(self.2, &t) == self.3,
+            None => false,
+        }
+    }
+}
+
+const LIMITS: [Limited; 6] = [
+    Limited(Example::WithArray(8_000), None, Machine::Pdp11, None),
+    Limited(
         Example::WithArray(8_000),
         None,
         Machine::Mips,
         Some((1, 5, 41)),
     ),
-    (Example::NullStatements(11_952), None, Machine::Mips, None),
-    (
+    Limited(Example::NullStatements(11_952), None, Machine::Mips, None),
+    Limited(
         Example::NullStatements(11_953),
         None,
         Machine::Mips,
         Some((1, 5, 42)),
     ),
-    (Example::Returning, Some(39_936), Machine::Pdp11, None),
-    (
+    Limited(Example::Returning, Some(39_936), Machine::Pdp11, None),
+    Limited(
         Example::Returning,
         Some(39_937),
         Machine::Pdp11,
@@ -307,17 +327,7 @@ const LIMITS: [(Example, Option<u32>, Machine, Told); 6] = [
     ),
 ];
 
-fn is_told(alloc: Global, row: &(Example, Option<u32>, Machine, Told)) -> bool {
-    let (example, length, machine, expected) = *row;
-    match typed(alloc, example, length) {
-        Some(t) => told_on(machine, &t) == expected,
-        None => false,
-    }
-}
-
 #[test]
 fn limits_that_are_passed(rt: HostRuntime) {
-    let alloc = rt.alloc();
-    let wrong = LIMITS.iter().position(|row| !is_told(alloc, row));
-    assert_eq!(rt; wrong, None);
+    check(&rt, rt.alloc(), &LIMITS);
 }

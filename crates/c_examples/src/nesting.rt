@@ -1,6 +1,7 @@
 //! How deep a source may nest.
 
 use crate::page::Page;
+use crate::rows::{Row, check};
 use crate::sources::{told, tree_of};
 use std::alloc::Global;
 
@@ -26,12 +27,17 @@ impl Nested {
         }
         page.put(self.after);
     }
+}
 
-    /// Whether the source has a tree, or is refused at the token that is too deep.
-    fn is_right(&self, alloc: Global) -> bool {
+impl Row for Nested {
+    /// The source has a tree, or is refused at the token that is too deep.
+    fn holds(&self, alloc: Global) -> bool {
         let mut page = Page::new(alloc);
         self.print(&mut page);
-        let expected = self.column.map(|column| (1, column, 6));
+        let expected = match self.column {
+            Some(column) => Some((1, column, 6)),
+            None => None,
+        };
         match page.text() {
             Some(source) => told(&tree_of(alloc, source)) == expected,
             None => false,
@@ -288,7 +294,5 @@ const NESTED: [Nested; 27] = [
 
 #[test]
 fn nesting_ends_at_200(rt: HostRuntime) {
-    let alloc = rt.alloc();
-    let wrong = NESTED.iter().position(|nested| !nested.is_right(alloc));
-    assert_eq!(rt; wrong, None);
+    check(&rt, rt.alloc(), &NESTED);
 }

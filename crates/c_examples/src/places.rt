@@ -1,8 +1,10 @@
 //! The places of tokens that a tree has.
 
+use crate::rows::{Row, check};
 use crate::sources::{told, tree_of};
 use c_tree::At;
 use c_tree::syntax::{Declaration, External, Initialiser, Item, Parameters, Syntax};
+use std::alloc::Global;
 
 /// What of an external declaration has a place of its own.
 #[derive(Clone, Copy)]
@@ -61,52 +63,72 @@ fn of_external(external: &External, part: Part) -> Option<At> {
     }
 }
 
-fn at(line: u32, column: u32) -> At {
-    At { line, column }
-}
-
 const SOURCE: &[u8] = b"int f(char a){}\nint\n b[1]= {2};\nvoid g();\n";
 
 /// Which external declaration of the source, which part of it, and the line and column of that.
-const PLACES: [(usize, Part, u32, u32); 6] = [
-    (0, Part::Name, 1, 5),
-    (0, Part::Parameter, 1, 12),
-    (0, Part::Brace, 1, 14),
-    (1, Part::Name, 3, 2),
-    (1, Part::Brace, 3, 8),
-    (2, Part::Name, 4, 6),
+struct Placed(usize, Part, u32, u32);
+
+const PLACES: [Placed; 6] = [
+    Placed(0, Part::Name, 1, 5),
+    Placed(0, Part::Parameter, 1, 12),
+    Placed(0, Part::Brace, 1, 14),
+    Placed(1, Part::Name, 3, 2),
+    Placed(1, Part::Brace, 3, 8),
+    Placed(2, Part::Name, 4, 6),
 ];
 
-fn is_placed(tree: &Syntax, row: &(usize, Part, u32, u32)) -> bool {
-    let (number, part, line, column) = *row;
-    match tree.parts.get(number) {
-        Some(external) => of_external(external, part) == Some(at(line, column)),
-        None => false,
+impl Placed {
+    fn is_in(&self, tree: &Syntax) -> bool {
+        match tree.parts.get(self.0) {
+            Some(external) => {
+                let place = At {
+                    line: self.2,
+                    column: self.3,
+                };
+                of_external(external, self.1) == Some(place)
+            }
+            None => false,
+        }
+    }
+}
+
+impl Row for Placed {
+    fn holds(&self, alloc: Global) -> bool {
+        match tree_of(alloc, SOURCE) {
+            Ok(tree) => self.is_in(&tree),
+            Err(_) => false,
+        }
     }
 }
 
 #[test]
-fn names_braces_and_the_end_have_their_places(rt: HostRuntime) {
-    let Ok(tree) = tree_of(rt.alloc(), SOURCE) else {
-        panic!(rt; "the source was refused");
-    };
-    let wrong = PLACES.iter().position(|row| !is_placed(&tree, row));
-    assert_eq!(rt; wrong, None);
-    assert_eq!(rt; tree.parts.len(), 3);
-    assert_eq!(rt; tree.end, at(5, 1));
+fn names_and_braces_have_their_places(rt: HostRuntime) {
+    check(&rt, rt.alloc(), &PLACES);
 }
 
+/// A source, the number of its external declarations, and the line and column of its end.
+struct Ended(&'static [u8], usize, u32, u32);
+
+impl Row for Ended {
+    fn holds(&self, alloc: Global) -> bool {
+        match tree_of(alloc, self.0) {
+            Ok(tree) => {
+                tree.parts.len() == self.1 && tree.end.line == self.2 && tree.end.column == self.3
+            }
+            Err(_) => false,
+        }
+    }
+}
+
+const ENDS: [Ended; 2] = [Ended(SOURCE, 3, 5, 1), Ended(b" \n\t /* */ \n", 0, 3, 1)];
+
 #[test]
-fn blanks_are_an_empty_program(rt: HostRuntime) {
-    let Ok(tree) = tree_of(rt.alloc(), b" \n\t /* */ \n") else {
-        panic!(rt; "the source was refused");
-    };
-    assert!(rt; tree.parts.is_empty());
-    assert_eq!(rt; tree.end, at(3, 1));
+fn sources_have_ends(rt: HostRuntime) {
+    check(&rt, rt.alloc(), &ENDS);
 }
 
 #[test]
 fn include_line_in_a_function_is_told(rt: HostRuntime) {
     let answer = tree_of(rt.alloc(), b"int f(){\n #include <stdio.h>\n}");
-    assert_eq!(rt; told(&answer), Some((2, 2, 5)));
+    assert!(rt; told(&answer) == Some((2, 2, 5)));
 }

@@ -64,7 +64,7 @@ const TOKENS: [Tokens; 2] = [
 
 #[test]
 fn tokens_have_places(rt: HostRuntime) {
-    check(&rt, rt.alloc(), &TOKENS);
+    check(&rt, rt.alloc(), "tokens", &TOKENS);
 }
 
 /// A source with the rule that it breaks, and where.
@@ -89,5 +89,5 @@ const FAULTS: [Fault; 8] = [
 
 #[test]
 fn faults_have_places(rt: HostRuntime) {
-    check(&rt, rt.alloc(), &FAULTS);
+    check(&rt, rt.alloc(), "faults", &FAULTS);
 }

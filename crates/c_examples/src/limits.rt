@@ -271,7 +271,7 @@ const MEASURES: [Measured; 6] = [
 
 #[test]
 fn frames_and_weights(rt: HostRuntime) {
-    check(&rt, rt.alloc(), &MEASURES);
+    check(&rt, rt.alloc(), "measures", &MEASURES);
 }
 
 #[derive(Clone, Copy)]
@@ -329,5 +329,5 @@ const LIMITS: [Limited; 6] = [
 
 #[test]
 fn limits_that_are_passed(rt: HostRuntime) {
-    check(&rt, rt.alloc(), &LIMITS);
+    check(&rt, rt.alloc(), "limits", &LIMITS);
 }

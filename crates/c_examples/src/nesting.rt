@@ -294,5 +294,5 @@ const NESTED: [Nested; 27] = [
 
 #[test]
 fn nesting_ends_at_200(rt: HostRuntime) {
-    check(&rt, rt.alloc(), &NESTED);
+    check(&rt, rt.alloc(), "nested", &NESTED);
 }

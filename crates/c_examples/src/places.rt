@@ -103,7 +103,7 @@ impl Row for Placed {
 
 #[test]
 fn names_and_braces_have_their_places(rt: HostRuntime) {
-    check(&rt, rt.alloc(), &PLACES);
+    check(&rt, rt.alloc(), "places", &PLACES);
 }
 
 /// A source, the number of its external declarations, and the line and column of its end.
@@ -124,7 +124,7 @@ const ENDS: [Ended; 2] = [Ended(SOURCE, 3, 5, 1), Ended(b" \n\t /* */ \n", 0, 3,
 
 #[test]
 fn sources_have_ends(rt: HostRuntime) {
-    check(&rt, rt.alloc(), &ENDS);
+    check(&rt, rt.alloc(), "ends", &ENDS);
 }
 
 #[test]

@@ -227,9 +227,9 @@ const TOKENS: [Refused; 16] = [
 #[test]
 fn first_bad_token_is_told(rt: HostRuntime) {
     let alloc = rt.alloc();
-    check(&rt, alloc, &IN_DECLARATIONS);
-    check(&rt, alloc, &IN_OPERATORS);
-    check(&rt, alloc, &IN_EXPRESSIONS);
-    check(&rt, alloc, &IN_STATEMENTS);
-    check(&rt, alloc, &TOKENS);
+    check(&rt, alloc, "in declarations", &IN_DECLARATIONS);
+    check(&rt, alloc, "in operators", &IN_OPERATORS);
+    check(&rt, alloc, "in expressions", &IN_EXPRESSIONS);
+    check(&rt, alloc, "in statements", &IN_STATEMENTS);
+    check(&rt, alloc, "tokens", &TOKENS);
 }

@@ -10,8 +10,8 @@ pub trait Row {
 }
 
 /// Ends the test at the first row that doesn't hold.
-pub fn check<R: Row>(rt: &impl Abort, alloc: Global, rows: &[R]) {
+pub fn check<R: Row>(rt: &impl Abort, alloc: Global, table: &str, rows: &[R]) {
     for (place, row) in rows.iter().enumerate() {
-        assert!(rt; row.holds(alloc), "row {place}");
+        assert!(rt; row.holds(alloc), "row {place} of {table}");
     }
 }

@@ -145,7 +145,7 @@ const STATEMENTS: [Statements; 76] = [
 
 #[test]
 fn statements_have_trees(rt: HostRuntime) {
-    check(&rt, rt.alloc(), &STATEMENTS);
+    check(&rt, rt.alloc(), "statements", &STATEMENTS);
 }
 
 /// A program, and its tree as text.
@@ -223,5 +223,5 @@ const PROGRAMS: [Program; 14] = [
 
 #[test]
 fn programs_have_trees(rt: HostRuntime) {
-    check(&rt, rt.alloc(), &PROGRAMS);
+    check(&rt, rt.alloc(), "programs", &PROGRAMS);
 }

@@ -7,6 +7,7 @@ ghost use Rattle.rtl_tree.specs.Substitution.{put_for};
 ghost use Rattle.rtl_norm.specs.Normal.{norm};
 
 use super::no_names;
+use super::table::{Row, check};
 use rtl_simplify::normalise;
 use rtl_text::{TextFault, read_transfer};
 use rtl_tree::{Cell, Expr, same, substitute, take};
@@ -44,16 +45,35 @@ fn put(alloc: Global, e: &mut Expr, c: Cell, by: &Expr) -> bool
 }
 
 /// Transfers with values `e` and `by`, and what comes of `e` where `by` is put for the cell between them.
-type Row = (&'static str, Cell, &'static str, &'static str);
+struct Substituted(&'static str, Cell, &'static str, &'static str);
 
-const SUBSTITUTED: [Row; 2] = [
-    (
+impl Substituted {
+    fn is_so(&self, alloc: Global, by: &Expr) -> bool {
+        match value(alloc, self.0) {
+            Ok(mut e) => substitute(alloc, &mut e, self.1, by).is_ok()
+                && is_value(alloc, &e, self.3),
+            Err(_) => false,
+        }
+    }
+}
+
+impl Row for Substituted {
+    fn holds(&self, alloc: Global) -> bool {
+        match value(alloc, self.2) {
+            Ok(by) => self.is_so(alloc, &by),
+            Err(_) => false,
+        }
+    }
+}
+
+const SUBSTITUTED: [Substituted; 2] = [
+    Substituted(
         "r[3] = M[r[1]]",
         Cell::Hard(1),
         "r[3] = (r[2] + 1)",
         "r[3] = M[(r[2] + 1)]",
     ),
-    (
+    Substituted(
         "r[3] = (r[1] + r[2])",
         Cell::Hard(1),
         "r[3] = 7",
@@ -61,41 +81,39 @@ const SUBSTITUTED: [Row; 2] = [
     ),
 ];
 
+/// The same with the normal form of what comes of `e`.
+struct Reduced(&'static str, Cell, &'static str, &'static str);
+
+impl Reduced {
+    fn is_so(&self, alloc: Global, by: &Expr) -> bool
+        requires { IsFitting 16 (tree_of by.now) }
+    {
+        match value(alloc, self.0) {
+            Ok(mut e) => put(alloc, &mut e, self.1, by) && is_value(alloc, &e, self.3),
+            Err(_) => false,
+        }
+    }
+}
+
+impl Row for Reduced {
+    fn holds(&self, alloc: Global) -> bool {
+        match value(alloc, self.2) {
+            Ok(by) => self.is_so(alloc, &by),
+            Err(_) => false,
+        }
+    }
+}
+
 /// N12: a test of a pair is a relation.
-const REDUCED: [Row; 1] = [(
+const REDUCED: [Reduced; 1] = [Reduced(
     "r[3] = (f[0] eq)",
     Cell::Flag(0),
     "f[0] = (r[1] ? 0)",
     "r[3] = (r[1] eq 0)",
 )];
 
-fn is_substituted(alloc: Global, row: &Row, by: &Expr) -> bool {
-    match value(alloc, row.0) {
-        Ok(mut e) => substitute(alloc, &mut e, row.1, by).is_ok() && is_value(alloc, &e, row.3),
-        Err(_) => false,
-    }
-}
-
-fn is_reduced(alloc: Global, row: &Row, by: &Expr) -> bool
-    requires { IsFitting 16 (tree_of by.now) }
-{
-    match value(alloc, row.0) {
-        Ok(mut e) => put(alloc, &mut e, row.1, by) && is_value(alloc, &e, row.3),
-        Err(_) => false,
-    }
-}
-
 #[test]
 fn trees_for_cells(rt: HostRuntime) {
-    let alloc = rt.alloc();
-    let wrong = SUBSTITUTED.iter().position(|row| match value(alloc, row.2) {
-        Ok(by) => !is_substituted(alloc, row, &by),
-        Err(_) => true,
-    });
-    assert_eq!(rt; wrong, None);
-    let wrong = REDUCED.iter().position(|row| match value(alloc, row.2) {
-        Ok(by) => !is_reduced(alloc, row, &by),
-        Err(_) => true,
-    });
-    assert_eq!(rt; wrong, None);
+    check(&rt, rt.alloc(), "substituted", &SUBSTITUTED);
+    check(&rt, rt.alloc(), "reduced", &REDUCED);
 }

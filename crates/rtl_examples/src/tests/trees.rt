@@ -1,6 +1,7 @@
 //! Small trees, sets and lists of names, with answers worked out by hand.
 
 use super::substitution::value;
+use super::table::{Row, check};
 use super::{no_names, one_name};
 use rtl_text::read_transfer;
 use rtl_tree::{
@@ -11,53 +12,72 @@ use std::alloc::Global;
 use std::test::Fail;
 
 /// Two transfers, whether their values are equal, and whether they are alike.
-const PAIRS: [(&str, &str, bool, bool); 4] = [
-    ("r[3] = (r[1] + 2)", "r[3] = (r[1] + 2)", true, true),
-    ("r[3] = (r[1] + 2)", "r[3] = (2 + r[1])", false, true),
-    ("r[3] = (r[1] + 2)", "r[3] = (r[1] + 3)", false, false),
-    ("r[3] = (r[1] - 2)", "r[3] = (2 - r[1])", false, false),
+struct Pair(&'static str, &'static str, bool, bool);
+
+impl Pair {
+    fn is_so(&self, alloc: Global, left: &Expr) -> bool {
+        match value(alloc, self.1) {
+            Ok(right) => same(left, &right) == self.2 && alike(left, &right) == self.3,
+            Err(_) => false,
+        }
+    }
+}
+
+impl Row for Pair {
+    fn holds(&self, alloc: Global) -> bool {
+        match value(alloc, self.0) {
+            Ok(left) => self.is_so(alloc, &left),
+            Err(_) => false,
+        }
+    }
+}
+
+const PAIRS: [Pair; 4] = [
+    Pair("r[3] = (r[1] + 2)", "r[3] = (r[1] + 2)", true, true),
+    Pair("r[3] = (r[1] + 2)", "r[3] = (2 + r[1])", false, true),
+    Pair("r[3] = (r[1] + 2)", "r[3] = (r[1] + 3)", false, false),
+    Pair("r[3] = (r[1] - 2)", "r[3] = (2 - r[1])", false, false),
 ];
 
-/// Whether a tree and the value of a transfer are equal, and alike, as it is said.
-fn are_compared(alloc: Global, left: &Expr, row: &(&str, &str, bool, bool)) -> bool {
-    match value(alloc, row.1) {
-        Ok(right) => same(left, &right) == row.2 && alike(left, &right) == row.3,
+/// A transfer whose value is taken away, so that 0 is left.
+struct Taken(&'static str);
+
+fn is_taken(alloc: Global, e: &mut Expr) -> bool {
+    match copy(alloc, e) {
+        Ok(other) => {
+            let taken = take(e);
+            same(e, &Expr::Num(0)) && same(&taken, &other)
+        }
         Err(_) => false,
     }
 }
 
-/// Whether a tree is taken away, and 0 left.
-fn is_taken(alloc: Global, e: &mut Expr) -> bool {
-    let Ok(other) = copy(alloc, e) else {
-        return false;
-    };
-    let taken = take(e);
-    same(e, &Expr::Num(0)) && same(&taken, &other)
+impl Row for Taken {
+    fn holds(&self, alloc: Global) -> bool {
+        match value(alloc, self.0) {
+            Ok(mut e) => is_taken(alloc, &mut e),
+            Err(_) => false,
+        }
+    }
 }
 
 #[test]
-fn trees_are_taken_copied_and_compared(rt: HostRuntime) -> Result<(), Fail> {
+fn trees_are_taken_copied_and_compared(rt: HostRuntime) {
     let alloc = rt.alloc();
-    let wrong = PAIRS.iter().position(|row| match value(alloc, row.0) {
-        Ok(left) => !are_compared(alloc, &left, row),
-        Err(_) => true,
-    });
-    assert_eq!(rt; wrong, None);
-    let mut sum = value(alloc, "r[3] = (r[1] + 2)")?;
-    assert!(rt; is_taken(alloc, &mut sum));
-    Ok(())
+    check(&rt, alloc, "pairs", &PAIRS);
+    check(&rt, alloc, "taken", &[Taken("r[3] = (r[1] + 2)")]);
 }
 
 /// A transfer, the cell for which the value of another one is put so many times in its first assignment, and whether it is well
 /// formed then.
-type Grown = (&'static str, Cell, &'static str, u32, bool);
+struct Grown(&'static str, Cell, &'static str, u32, bool);
 
 const GROWN: [Grown; 5] = [
-    ("r[0] = r[1]", Cell::Hard(1), "r[3] = (neg r[1])", 31, true),
-    ("r[0] = r[1]", Cell::Hard(1), "r[3] = (neg r[1])", 32, false),
-    ("M[r[1]] = 0", Cell::Hard(1), "r[3] = (neg r[1])", 30, true),
-    ("M[r[1]] = 0", Cell::Hard(1), "r[3] = (neg r[1])", 31, false),
-    ("r[0] = (f[0] lt)", Cell::Flag(0), "r[3] = r[1]", 1, false),
+    Grown("r[0] = r[1]", Cell::Hard(1), "r[3] = (neg r[1])", 31, true),
+    Grown("r[0] = r[1]", Cell::Hard(1), "r[3] = (neg r[1])", 32, false),
+    Grown("M[r[1]] = 0", Cell::Hard(1), "r[3] = (neg r[1])", 30, true),
+    Grown("M[r[1]] = 0", Cell::Hard(1), "r[3] = (neg r[1])", 31, false),
+    Grown("r[0] = (f[0] lt)", Cell::Flag(0), "r[3] = r[1]", 1, false),
 ];
 
 /// Whether there was memory to put a tree so many times for a cell.
@@ -76,73 +96,100 @@ fn grow_address(alloc: Global, to: &mut Place, row: &Grown, by: &Expr) -> bool {
     }
 }
 
-fn is_grown(alloc: Global, row: &Grown, by: &Expr) -> bool {
-    let Ok(mut transfer) = read_transfer::<W16>(alloc, row.0.as_bytes(), &no_names(alloc)) else {
-        return false;
-    };
-    let first = &mut transfer.list[0];
-    let is_whole = grow_address(alloc, &mut first.to, row, by)
-        & grow(alloc, &mut first.value, row, by);
-    is_whole && well_formed(&transfer) == row.4
+impl Grown {
+    fn is_so(&self, alloc: Global, by: &Expr) -> bool {
+        match read_transfer::<W16>(alloc, self.0.as_bytes(), &no_names(alloc)) {
+            Ok(mut transfer) => {
+                let first = &mut transfer.list[0];
+                let is_whole = grow_address(alloc, &mut first.to, self, by)
+                    & grow(alloc, &mut first.value, self, by);
+                is_whole && well_formed(&transfer) == self.4
+            }
+            Err(_) => false,
+        }
+    }
+}
+
+impl Row for Grown {
+    fn holds(&self, alloc: Global) -> bool {
+        match value(alloc, self.2) {
+            Ok(by) => self.is_so(alloc, &by),
+            Err(_) => false,
+        }
+    }
 }
 
 #[test]
 fn transfers_that_no_text_spells(rt: HostRuntime) {
-    let alloc = rt.alloc();
-    let wrong = GROWN.iter().position(|row| match value(alloc, row.2) {
-        Ok(by) => !is_grown(alloc, row, &by),
-        Err(_) => true,
-    });
-    assert_eq!(rt; wrong, None);
+    check(&rt, rt.alloc(), "grown", &GROWN);
 }
 
-const CELLS: [(Cell, bool); 10] = [
-    (Cell::Hard(5), true),
-    (Cell::Hard(4), false),
-    (Cell::Hard(69), false),
-    (Cell::Flag(7), true),
-    (Cell::Flag(15), false),
-    (Cell::Temp(127), true),
-    (Cell::Temp(63), false),
-    (Cell::Temp(191), false),
-    (Cell::Pc, false),
-    (Cell::Hole(5), false),
+/// A cell, and whether the set has it.
+struct InSet(Cell, bool);
+
+const TEMPS: [u64; 2] = [0, 1 << 63];
+
+impl Row for InSet {
+    fn holds(&self, _: Global) -> bool {
+        CellSet::of(1 << 5, 1 << 7, &TEMPS).has(self.0) == self.1
+    }
+}
+
+const CELLS: [InSet; 10] = [
+    InSet(Cell::Hard(5), true),
+    InSet(Cell::Hard(4), false),
+    InSet(Cell::Hard(69), false),
+    InSet(Cell::Flag(7), true),
+    InSet(Cell::Flag(15), false),
+    InSet(Cell::Temp(127), true),
+    InSet(Cell::Temp(63), false),
+    InSet(Cell::Temp(191), false),
+    InSet(Cell::Pc, false),
+    InSet(Cell::Hole(5), false),
 ];
 
 #[test]
 fn a_set_has_its_cells(rt: HostRuntime) {
-    let temps = [0u64, 1 << 63];
-    let set = CellSet::of(1 << 5, 1 << 7, &temps);
-    let wrong = CELLS.iter().position(|row| set.has(row.0) != row.1);
-    assert_eq!(rt; wrong, None);
+    check(&rt, rt.alloc(), "cells", &CELLS);
 }
 
-const NAMES: [(&[u8], bool); 6] = [
-    (b"_a1", true),
-    (b"", false),
-    (b"1a", false),
-    (b"a.b", false),
-    (&[b'x'; 63], true),
-    (&[b'x'; 64], false),
+/// Bytes, and whether they are a name.
+struct Named(&'static [u8], bool);
+
+impl Row for Named {
+    fn holds(&self, _: Global) -> bool {
+        is_name(self.0) == self.1
+    }
+}
+
+const NAMES: [Named; 6] = [
+    Named(b"_a1", true),
+    Named(b"", false),
+    Named(b"1a", false),
+    Named(b"a.b", false),
+    Named(&[b'x'; 63], true),
+    Named(&[b'x'; 64], false),
 ];
 
 #[test]
 fn names_are_told(rt: HostRuntime) {
-    let wrong = NAMES.iter().position(|row| is_name(row.0) != row.1);
-    assert_eq!(rt; wrong, None);
+    check(&rt, rt.alloc(), "names", &NAMES);
+}
+
+/// Whether a list of the name `main` finds it until it is cut off.
+fn is_cut(names: &mut NameList) -> bool {
+    let is_there = names.len() == 1 && names.find(b"main") == Some(0) && names.get(1).is_none();
+    names.truncate(1);
+    let is_kept = names.find(b"main") == Some(0);
+    names.truncate(0);
+    is_there && is_kept && names.find(b"main").is_none()
 }
 
 #[test]
 fn names_are_kept_in_order(rt: HostRuntime) -> Result<(), Fail> {
     let alloc = rt.alloc();
-    assert_eq!(rt; NameList::new(alloc).find(b"main"), None);
+    assert!(rt; NameList::new(alloc).find(b"main").is_none());
     let mut names = one_name(alloc, b"main")?;
-    assert_eq!(rt; names.find(b"main"), Some(0));
-    assert_eq!(rt; names.len(), 1);
-    assert!(rt; names.get(1).is_none());
-    names.truncate(1);
-    assert_eq!(rt; names.find(b"main"), Some(0));
-    names.truncate(0);
-    assert_eq!(rt; names.find(b"main"), None);
+    assert!(rt; is_cut(&mut names));
     Ok(())
 }

@@ -23,10 +23,7 @@ fn print_kind(page: &mut Page, kind: &TokenKind) {
 }
 
 fn print_token(page: &mut Page, token: &Token) {
-    page.number(u64::from(token.at.line));
-    page.put(b":");
-    page.number(u64::from(token.at.column));
-    page.put(b" ");
+    page.place(token.at);
     print_kind(page, &token.kind);
     page.put(b", ");
 }

@@ -15,10 +15,6 @@ const NAME: At = At { line: 1, column: 5 };
 /// A tree in a box, or nothing where memory was wanting.
 type Tree = Option<Boxed<TypedExpr>>;
 
-type Statements = Option<Items<Boxed<Stat>>>;
-
-type Objects = Option<Items<Object>>;
-
 fn head(of: CType) -> Head {
     Head { of, at: NAME }
 }
@@ -91,24 +87,14 @@ fn conditional(alloc: Global, test: Tree, then: Option<Boxed<Stat>>) -> Option<B
     }
 }
 
-/// The statement behind the others.
-fn also(statements: Statements, s: Option<Boxed<Stat>>) -> Statements {
-    match (statements, s) {
-        (Some(mut statements), Some(s)) => {
-            if statements.push(s).is_ok() {
-                Some(statements)
-            } else {
-                None
-            }
-        }
-        _ => None,
-    }
-}
+type Statements = Items<Boxed<Stat>>;
 
-fn one_object(alloc: Global, element: CType, length: Option<u32>) -> Objects {
-    let mut objects = Items::new(alloc);
-    objects.push(named(alloc, element, length)).ok()?;
-    Some(objects)
+/// Whether there was a statement, and memory to add it.
+fn add(body: &mut Statements, s: Option<Boxed<Stat>>) -> bool {
+    match s {
+        Some(s) => body.push(s).is_ok(),
+        None => false,
+    }
 }
 
 fn named(alloc: Global, element: CType, length: Option<u32>) -> Object {
@@ -120,25 +106,8 @@ fn named(alloc: Global, element: CType, length: Option<u32>) -> Object {
     }
 }
 
-fn function(alloc: Global, params: Objects, locals: Objects, body: Statements) -> Option<Function> {
-    let body = Boxed::new(alloc, Stat::Block(NAME, body?)).ok()?;
-    Some(Function {
-        name: Items::new(alloc),
-        result: CType::Int,
-        params: params?,
-        locals: locals?,
-        body,
-        at: NAME,
-    })
-}
-
-/// `{return 0;}`
-fn zero(alloc: Global) -> Statements {
-    also(Some(Items::new(alloc)), returned(alloc, number(alloc, 0)))
-}
-
-/// `{if(n==0)return 0;return 1+d(n-1);}`
-fn descent(alloc: Global) -> Statements {
+/// `if(n==0)return 0;return 1+d(n-1);`
+fn add_descent(alloc: Global, body: &mut Statements) -> bool {
     let test = binary(
         alloc,
         parameter(alloc),
@@ -158,25 +127,22 @@ fn descent(alloc: Global) -> Statements {
         BinaryOperator::Add,
         call(alloc, less),
     );
-    also(also(Some(Items::new(alloc)), first), returned(alloc, sum))
+    add(body, first) & add(body, returned(alloc, sum))
 }
 
-/// `{c=1;}`, of a local `c` of type char.
-fn assignment(alloc: Global) -> Statements {
+/// `c=1;`, of a local `c` of type char.
+fn assignment(alloc: Global) -> Option<Boxed<Stat>> {
     let left = object(alloc, CType::Schar, Variable::Local(0));
     let right = converted(alloc, number(alloc, 1));
-    also(
-        Some(Items::new(alloc)),
-        evaluated(alloc, assigned(alloc, left, right)),
-    )
+    evaluated(alloc, assigned(alloc, left, right))
 }
 
-fn null_statements(alloc: Global, count: u32) -> Statements {
-    let mut body = Some(Items::new(alloc));
+fn add_null_statements(alloc: Global, body: &mut Statements, count: u32) -> bool {
+    let mut is_whole = true;
     for _ in 0..count {
-        body = also(body, null_statement(alloc));
+        is_whole &= add(body, null_statement(alloc));
     }
-    body
+    is_whole
 }
 
 /// A function that these examples measure.
@@ -198,49 +164,72 @@ enum Example {
     NullStatements(u32),
 }
 
-fn body_of(alloc: Global, example: Example) -> Statements {
+fn add_body(alloc: Global, body: &mut Statements, example: Example) -> bool {
     match example {
-        Example::Empty => Some(Items::new(alloc)),
-        Example::Returning | Example::WithArray(_) => zero(alloc),
-        Example::Recursive => descent(alloc),
-        Example::Calling => {
-            let result = returned(alloc, call(alloc, number(alloc, 228)));
-            also(Some(Items::new(alloc)), result)
+        Example::Empty => true,
+        Example::Returning | Example::WithArray(_) => add(body, returned(alloc, number(alloc, 0))),
+        Example::Recursive => add_descent(alloc, body),
+        Example::Calling => add(body, returned(alloc, call(alloc, number(alloc, 228)))),
+        Example::Converting => add(body, assignment(alloc)),
+        Example::NullStatements(count) => add_null_statements(alloc, body, count),
+    }
+}
+
+/// Whether there was memory to declare the parameters and locals.
+fn declare(alloc: Global, f: &mut Function, example: Example) -> bool {
+    match example {
+        Example::WithArray(length) => {
+            let array = named(alloc, CType::Int, Some(length));
+            f.locals.push(array).is_ok()
         }
-        Example::Converting => assignment(alloc),
-        Example::NullStatements(count) => null_statements(alloc, count),
+        Example::Recursive => f.params.push(named(alloc, CType::Int, None)).is_ok(),
+        Example::Converting => f.locals.push(named(alloc, CType::Schar, None)).is_ok(),
+        _ => true,
+    }
+}
+
+fn block(alloc: Global, example: Example) -> Option<Boxed<Stat>> {
+    let mut body = Items::new(alloc);
+    if add_body(alloc, &mut body, example) {
+        Boxed::new(alloc, Stat::Block(NAME, body)).ok()
+    } else {
+        None
+    }
+}
+
+fn function(alloc: Global, body: Boxed<Stat>) -> Function {
+    Function {
+        name: Items::new(alloc),
+        result: CType::Int,
+        params: Items::new(alloc),
+        locals: Items::new(alloc),
+        body,
+        at: NAME,
     }
 }
 
 fn built(alloc: Global, example: Example) -> Option<Function> {
-    let none = Some(Items::new(alloc));
-    let body = body_of(alloc, example);
-    match example {
-        Example::WithArray(length) => {
-            function(
-                alloc,
-                none,
-                one_object(alloc, CType::Int, Some(length)),
-                body,
-            )
-        }
-        Example::Recursive => function(alloc, one_object(alloc, CType::Int, None), none, body),
-        Example::Converting => function(alloc, none, one_object(alloc, CType::Schar, None), body),
-        _ => function(alloc, none, Some(Items::new(alloc)), body),
+    let mut f = function(alloc, block(alloc, example)?);
+    if declare(alloc, &mut f, example) {
+        Some(f)
+    } else {
+        None
     }
 }
 
-/// The function alone, with a static char array of this length where one is given.
-fn typed(alloc: Global, example: Example, length: Option<u32>) -> Option<Typed> {
-    let mut functions = Items::new(alloc);
-    functions.push(built(alloc, example)?).ok()?;
-    let mut statics = Items::new(alloc);
-    if length.is_some() {
-        let object = named(alloc, CType::Schar, length);
-        let init = Items::new(alloc);
-        statics.push(Static { object, init }).ok()?;
+/// Whether there was memory to add the function.
+fn add_function(alloc: Global, t: &mut Typed, example: Example) -> bool {
+    match built(alloc, example) {
+        Some(f) => t.functions.push(f).is_ok(),
+        None => false,
     }
-    Some(Typed { statics, functions })
+}
+
+/// Whether there was memory to add a char array of this length.
+fn add_static(alloc: Global, t: &mut Typed, length: u32) -> bool {
+    let object = named(alloc, CType::Schar, Some(length));
+    let init = Items::new(alloc);
+    t.statics.push(Static { object, init }).is_ok()
 }
 
 /// A function with its frame for words of 16 bits and of 32 bits, and its weight.
@@ -296,10 +285,15 @@ struct Limited(Example, Option<u32>, Machine, Told);
 
 impl Row for Limited {
     fn holds(&self, alloc: Global) -> bool {
-        match typed(alloc, self.0, self.1) {
-            Some(t) => told_on(self.2, &t) == self.3,
-            None => false,
-        }
+        let mut t = Typed {
+            statics: Items::new(alloc),
+            functions: Items::new(alloc),
+        };
+        let is_whole = match self.1 {
+            Some(length) => add_static(alloc, &mut t, length),
+            None => true,
+        };
+        (is_whole & add_function(alloc, &mut t, self.0)) && told_on(self.2, &t) == self.3
     }
 }
 

@@ -3,6 +3,7 @@
 //! No call returns early: a page notes that memory was wanting, and goes on. So what prints to it has one way through, which keeps
 //! its proof short.
 
+use c_tree::At;
 use itoa::Buffer;
 use std::alloc::Global;
 
@@ -28,6 +29,14 @@ impl Page {
     pub fn number(&mut self, value: u64) {
         let mut buffer = Buffer::new();
         self.put(buffer.format(value).as_bytes());
+    }
+
+    /// A line and a column.
+    pub fn place(&mut self, at: At) {
+        self.number(u64::from(at.line));
+        self.put(b":");
+        self.number(u64::from(at.column));
+        self.put(b" ");
     }
 
     /// The value of a character constant, between quotes.

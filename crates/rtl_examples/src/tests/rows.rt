@@ -6,8 +6,8 @@ ghost use Rattle.rtl_tree.specs.Trees.{AnyNumber};
 use super::no_names;
 use super::table::{Row, check};
 use rtl_simplify::normalise_effects;
-use rtl_text::{OpenHole, read_holed};
-use rtl_tree::{Expr, same};
+use rtl_text::{OpenHole, TextFault, read_holed};
+use rtl_tree::{Effects, Expr, same};
 use rtl_word::W16;
 use std::alloc::{AllocError, Global};
 
@@ -24,6 +24,15 @@ fn number_hole(alloc: Global) -> Result<Vec<OpenHole>, AllocError>
     Ok(holes)
 }
 
+/// The normal form of the transfer that a row's text spells.
+fn row(alloc: Global, text: &str) -> Result<Effects, TextFault> {
+    let names = no_names(alloc);
+    let holes = number_hole(alloc)?;
+    let mut normal = read_holed::<W16>(alloc, text.as_bytes(), &names, &holes)?;
+    normalise_effects::<W16>(&mut normal);
+    Ok(normal)
+}
+
 /// Whether a text spells this tree as the value of its first assignment.
 fn is_value(alloc: Global, holes: &Vec<OpenHole>, e: &Expr, text: &str) -> bool {
     match read_holed::<W16>(alloc, text.as_bytes(), &no_names(alloc), holes) {
@@ -35,16 +44,12 @@ fn is_value(alloc: Global, holes: &Vec<OpenHole>, e: &Expr, text: &str) -> bool 
     }
 }
 
-/// Whether the normal form of the one value is the other.
-fn becomes(alloc: Global, holes: &Vec<OpenHole>, from: &str, to: &str) -> bool
-    requires { holes.now.items ≡ record { name = 110 ∷ []; leaf = AnyNumber 0 } ∷ [] }
-{
-    let names = no_names(alloc);
-    match read_holed::<W16>(alloc, from.as_bytes(), &names, holes) {
-        Ok(mut transfer) => {
-            normalise_effects::<W16>(&mut transfer);
-            let first = &transfer.list[0];
-            is_value(alloc, holes, &first.value, to)
+/// Whether a text spells the value of this transfer's first assignment.
+fn has_value(alloc: Global, normal: &Effects, text: &str) -> bool {
+    match number_hole(alloc) {
+        Ok(holes) => {
+            let first = &normal.list[0];
+            is_value(alloc, &holes, &first.value, text)
         }
         Err(_) => false,
     }
@@ -55,8 +60,8 @@ struct Normal(&'static str, &'static str);
 
 impl Row for Normal {
     fn holds(&self, alloc: Global) -> bool {
-        match number_hole(alloc) {
-            Ok(holes) => becomes(alloc, &holes, self.0, self.1),
+        match row(alloc, self.0) {
+            Ok(normal) => has_value(alloc, &normal, self.1),
             Err(_) => false,
         }
     }

@@ -1,6 +1,6 @@
 //! Trees put for cells, and brought to normal form.
 
-ghost use Rattle.std.specs.Prelude.{IfOk, IsTrue, ◌≡◌};
+ghost use Rattle.std.specs.Prelude.{IfOk, ◌≡◌};
 ghost use Rattle.rtl_tree.specs.Trees.{tree_of};
 ghost use Rattle.rtl_tree.specs.Sorts.{IsFitting};
 ghost use Rattle.rtl_tree.specs.Substitution.{put_for};
@@ -10,7 +10,7 @@ use super::no_names;
 use super::table::{Row, check};
 use rtl_simplify::normalise;
 use rtl_text::{TextFault, read_transfer};
-use rtl_tree::{Cell, Expr, same, substitute, take};
+use rtl_tree::{Cell, Expr, NoMemory, same, substitute, take};
 use rtl_word::W16;
 use std::alloc::Global;
 
@@ -31,17 +31,27 @@ fn is_value(alloc: Global, e: &Expr, text: &str) -> bool {
     }
 }
 
-/// Leaves the normal form of a tree with another one put for a cell; whether there was memory for it.
-fn put(alloc: Global, e: &mut Expr, c: Cell, by: &Expr) -> bool
-    requires tree { IsFitting 16 (tree_of e.old) }
+/// The normal form of a tree with another one put for a cell.
+fn put(alloc: Global, e: Expr, c: Cell, by: &Expr) -> Result<Expr, NoMemory>
+    requires tree { IsFitting 16 (tree_of e) }
     requires by { IsFitting 16 (tree_of by.now) }
-    ensures { IsTrue result → tree_of e.new ≡ norm 16 (put_for c (tree_of by.now) (tree_of e.old)) }
+    ensures { IfOk result (λ r. tree_of r ≡ norm 16 (put_for c (tree_of by.now) (tree_of e))) }
 {
-    if substitute(alloc, e, c, by).is_err() {
-        return false;
+    let mut e = e;
+    substitute(alloc, &mut e, c, by)?;
+    normalise::<W16>(&mut e);
+    Ok(e)
+}
+
+/// Whether a text spells the normal form of a tree with another one put for a cell.
+fn is_put(alloc: Global, e: Expr, c: Cell, by: &Expr, text: &str) -> bool
+    requires tree { IsFitting 16 (tree_of e) }
+    requires by { IsFitting 16 (tree_of by.now) }
+{
+    match put(alloc, e, c, by) {
+        Ok(r) => is_value(alloc, &r, text),
+        Err(_) => false,
     }
-    normalise::<W16>(e);
-    true
 }
 
 /// Transfers with values `e` and `by`, and what comes of `e` where `by` is put for the cell between them.
@@ -89,7 +99,7 @@ impl Reduced {
         requires { IsFitting 16 (tree_of by.now) }
     {
         match value(alloc, self.0) {
-            Ok(mut e) => put(alloc, &mut e, self.1, by) && is_value(alloc, &e, self.3),
+            Ok(e) => is_put(alloc, e, self.1, by, self.3),
             Err(_) => false,
         }
     }

@@ -33,24 +33,23 @@ fn row(alloc: Global, text: &str) -> Result<Effects, TextFault> {
     Ok(normal)
 }
 
-/// Whether a text spells this tree as the value of its first assignment.
-fn is_value(alloc: Global, holes: &Vec<OpenHole>, e: &Expr, text: &str) -> bool {
-    match read_holed::<W16>(alloc, text.as_bytes(), &no_names(alloc), holes) {
-        Ok(transfer) => {
-            let first = &transfer.list[0];
-            same(e, &first.value)
-        }
-        Err(_) => false,
-    }
+fn spelled(alloc: Global, holes: &Vec<OpenHole>, text: &str) -> Result<Effects, TextFault> {
+    read_holed::<W16>(alloc, text.as_bytes(), &no_names(alloc), holes)
+}
+
+/// Whether the first assignments of two transfers have one value.
+fn are_alike(one: &Effects, other: &Effects) -> bool {
+    let (left, right) = (&one.list[0], &other.list[0]);
+    same(&left.value, &right.value)
 }
 
 /// Whether a text spells the value of this transfer's first assignment.
 fn has_value(alloc: Global, normal: &Effects, text: &str) -> bool {
-    match number_hole(alloc) {
-        Ok(holes) => {
-            let first = &normal.list[0];
-            is_value(alloc, &holes, &first.value, text)
-        }
+    let Ok(holes) = number_hole(alloc) else {
+        return false;
+    };
+    match spelled(alloc, &holes, text) {
+        Ok(transfer) => are_alike(normal, &transfer),
         Err(_) => false,
     }
 }

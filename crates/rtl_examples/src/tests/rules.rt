@@ -4,6 +4,7 @@
 use super::no_names;
 use super::table::{Row, check};
 use crate::normal_text;
+use rtl_text::TextFault;
 use rtl_word::{W16, W32, Word};
 use std::alloc::Global;
 
@@ -209,11 +210,14 @@ const TRANSFERS: [Transfer; 10] = [
     Transfer("r[1] = ((r[1] div 0) * 0)", "r[1] = ((r[1] div 0) * 0)"),
 ];
 
+fn normal<W: Word>(alloc: Global, text: &str) -> Result<Vec<u8>, TextFault> {
+    normal_text::<W>(alloc, text.as_bytes(), &no_names(alloc))
+}
+
 /// Whether the one transfer has the other as its normal form.
 fn becomes<W: Word>(alloc: Global, from: &str, to: &str) -> bool {
-    let names = no_names(alloc);
-    match normal_text::<W>(alloc, from.as_bytes(), &names) {
-        Ok(normal) => normal.as_slice() == to.as_bytes(),
+    match normal::<W>(alloc, from) {
+        Ok(text) => text.as_slice() == to.as_bytes(),
         Err(_) => false,
     }
 }
@@ -261,8 +265,8 @@ impl Row for Transfer {
 #[test]
 fn rules_by_both_word_sizes(rt: HostRuntime) {
     let alloc = rt.alloc();
-    for (rule, rows) in RULES {
-        check(&rt, alloc, rule, rows);
+    for table in &RULES {
+        check(&rt, alloc, table.0, table.1);
     }
     check(&rt, alloc, "unchanged", &UNCHANGED);
 }

@@ -2,27 +2,20 @@
 
 ghost use Rattle.rtl_spelling.specs.Spelling.{AreApart};
 
-use super::names;
 use super::table::{Row, check};
+use super::{names, read};
 use rtl_text::TextFault::{BadForm, BadToken, IllFormed, TooDeep};
 use rtl_text::{OpenHole, TextFault, print_transfer, read_holed, read_transfer};
 use rtl_tree::{Cell, Effects, Expr, Names, Place, Width};
 use rtl_word::{W16, W32, Word};
 use std::alloc::Global;
 
-fn told<W: Word>(alloc: Global, text: &[u8]) -> Option<TextFault> {
-    match names(alloc) {
-        Ok(names) => read_transfer::<W>(alloc, text, &names).err(),
-        Err(_) => Some(TextFault::NoMemory),
-    }
-}
-
 /// A text that spells no transfer by words of 16 bits, and why not.
 struct Fault(&'static [u8], TextFault);
 
 impl Row for Fault {
     fn holds(&self, alloc: Global) -> bool {
-        told::<W16>(alloc, self.0) == Some(self.1)
+        read::<W16>(alloc, self.0).err() == Some(self.1)
     }
 }
 
@@ -93,7 +86,7 @@ struct Long(&'static [u8], Option<TextFault>);
 
 impl Row for Long {
     fn holds(&self, alloc: Global) -> bool {
-        told::<W32>(alloc, self.0) == self.1
+        read::<W32>(alloc, self.0).err() == self.1
     }
 }
 
@@ -132,7 +125,7 @@ impl Row for Deep {
             & add(&mut text, self.2, 1)
             & add(&mut text, b")", self.1)
             & add(&mut text, self.3, 1);
-        is_whole && told::<W16>(alloc, text.as_slice()) == self.4
+        is_whole && read::<W16>(alloc, text.as_slice()).err() == self.4
     }
 }
 
@@ -223,16 +216,26 @@ fn holes(alloc: Global) -> Option<Vec<OpenHole>> {
     if is_whole { Some(holes) } else { None }
 }
 
+/// The transfer that a text with holes spells.
+fn filled<W: Word>(
+    alloc: Global,
+    holes: &Vec<OpenHole>,
+    text: &[u8],
+) -> Result<Effects, TextFault> {
+    match names(alloc) {
+        Ok(names) => read_holed::<W>(alloc, text, &names, holes),
+        Err(_) => Err(TextFault::NoMemory),
+    }
+}
+
 /// A text with these holes, and its fault.
 struct Holed(&'static [u8], Option<TextFault>);
 
 impl Row for Holed {
     fn holds(&self, alloc: Global) -> bool {
-        match (names(alloc), holes(alloc)) {
-            (Ok(names), Some(holes)) => {
-                read_holed::<W16>(alloc, self.0, &names, &holes).err() == self.1
-            }
-            _ => false,
+        match holes(alloc) {
+            Some(holes) => filled::<W16>(alloc, &holes, self.0).err() == self.1,
+            None => false,
         }
     }
 }
@@ -260,19 +263,21 @@ fn stores_five(effects: &Effects) -> bool {
     }
 }
 
+fn is_store(alloc: Global, holes: &Vec<OpenHole>, text: &[u8]) -> bool {
+    match filled::<W32>(alloc, holes, text) {
+        Ok(effects) => stores_five(&effects),
+        Err(_) => false,
+    }
+}
+
 /// A text that spells that assignment.
 struct Store(&'static [u8]);
 
 impl Row for Store {
     fn holds(&self, alloc: Global) -> bool {
-        match (names(alloc), holes(alloc)) {
-            (Ok(names), Some(holes)) => {
-                match read_holed::<W32>(alloc, self.0, &names, &holes) {
-                    Ok(effects) => stores_five(&effects),
-                    Err(_) => false,
-                }
-            }
-            _ => false,
+        match holes(alloc) {
+            Some(holes) => is_store(alloc, &holes, self.0),
+            None => false,
         }
     }
 }

@@ -2,8 +2,7 @@
 
 use super::substitution::value;
 use super::table::{Row, check};
-use super::{no_names, one_name};
-use rtl_text::read_transfer;
+use super::{one_name, read};
 use rtl_tree::{
     Cell, CellSet, Expr, NameList, Place, alike, copy, is_name, same, substitute, take, well_formed,
 };
@@ -98,7 +97,7 @@ fn grow_address(alloc: Global, to: &mut Place, row: &Grown, by: &Expr) -> bool {
 
 impl Grown {
     fn is_so(&self, alloc: Global, by: &Expr) -> bool {
-        match read_transfer::<W16>(alloc, self.0.as_bytes(), &no_names(alloc)) {
+        match read::<W16>(alloc, self.0.as_bytes()) {
             Ok(mut transfer) => {
                 let first = &mut transfer.list[0];
                 let is_whole = grow_address(alloc, &mut first.to, self, by)

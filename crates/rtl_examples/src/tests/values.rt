@@ -1,8 +1,7 @@
 //! Values worked out by hand.
 
-use super::names;
+use super::read;
 use super::table::{Row, check};
-use rtl_text::read_transfer;
 use rtl_tree::{BinOp, Expr, Lab};
 use rtl_value::{
     Bytes, FlagPair, Flags, LabelAt, Labels, State, Trap, Words, apply_binary, is_readable,
@@ -84,10 +83,7 @@ fn spells_value<W: Word>(
     text: &str,
     expected: Result<u32, Trap>,
 ) -> bool {
-    let Ok(names) = names(alloc) else {
-        return false;
-    };
-    match read_transfer::<W>(alloc, text.as_bytes(), &names) {
+    match read::<W>(alloc, text.as_bytes()) {
         Ok(transfer) => {
             let first = &transfer.list[0];
             has_value::<W>(s, &first.value, expected)

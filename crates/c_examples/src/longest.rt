@@ -1,10 +1,10 @@
 //! Long sources.
 
-ghost use Rattle.std.specs.Prelude.{◌≡◌, IfOk, length};
+ghost use Rattle.std.specs.Prelude.{◌≤◌, length};
 
+use crate::rows::{Row, check};
 use c_source::tree_of;
-use std::alloc::{AllocError, Global};
-use std::test::Fail;
+use std::alloc::Global;
 
 /// The longest source, in bytes.
 const LONGEST: usize = 1_048_576;
@@ -17,35 +17,57 @@ const FUNCTION: &[u8] = b"int f(int a,char c){
 }
 ";
 
-/// The length of a source of many functions.
-const LONG: usize = 65_536;
-
-/// As many functions as there is room for, and blanks behind them.
-fn functions(alloc: Global) -> Result<Vec<u8>, AllocError>
-    ensures { IfOk result (λ text. length text.items ≡ 65536) }
+/// How many external declarations a source has.
+fn parts(alloc: Global, text: &[u8]) -> Option<usize>
+    requires { length text.now ≤ 4294967294 }
 {
-    let mut text = Vec::new(alloc);
-    for _ in 0..LONG / FUNCTION.len() {
-        text.extend_from_slice(FUNCTION)?;
+    match tree_of(alloc, text) {
+        Ok(tree) => Some(tree.parts.len()),
+        Err(_) => None,
     }
-    text.resize(LONG, b' ')?;
-    Ok(text)
+}
+
+/// A source of so many functions, with blanks behind them up to a length.
+struct Long {
+    functions: usize,
+    length: usize,
+}
+
+impl Long {
+    /// Whether there was memory for the source.
+    fn fill(&self, text: &mut Vec<u8>) -> bool {
+        let mut is_whole = true;
+        for _ in 0..self.functions {
+            is_whole &= text.extend_from_slice(FUNCTION).is_ok();
+        }
+        is_whole & text.resize(self.length, b' ').is_ok()
+    }
+}
+
+impl Row for Long {
+    fn holds(&self, alloc: Global) -> bool {
+        let mut text = Vec::new(alloc);
+        let is_whole = self.fill(&mut text);
+        is_whole && text.len() <= LONGEST && parts(alloc, &text) == Some(self.functions)
+    }
+}
+
+const BLANKS: [Long; 1] = [Long {
+    functions: 0,
+    length: LONGEST,
+}];
+
+const FUNCTIONS: [Long; 1] = [Long {
+    functions: 324,
+    length: 65_536,
+}];
+
+#[test]
+fn longest_blank_source_is_an_empty_program(rt: HostRuntime) {
+    check(&rt, rt.alloc(), "blanks", &BLANKS);
 }
 
 #[test]
-fn longest_blank_source_is_an_empty_program(rt: HostRuntime) -> Result<(), Fail> {
-    let alloc = rt.alloc();
-    let text = vec![in alloc; b' '; LONGEST]?;
-    let tree = tree_of(alloc, &text)?;
-    assert!(rt; tree.parts.is_empty());
-    Ok(())
-}
-
-#[test]
-fn long_source_of_functions_has_a_tree(rt: HostRuntime) -> Result<(), Fail> {
-    let alloc = rt.alloc();
-    let text = functions(alloc)?;
-    let tree = tree_of(alloc, &text)?;
-    assert_eq!(rt; tree.parts.len(), LONG / FUNCTION.len());
-    Ok(())
+fn long_source_of_functions_has_a_tree(rt: HostRuntime) {
+    check(&rt, rt.alloc(), "functions", &FUNCTIONS);
 }

@@ -1,114 +1,108 @@
 //! The places of tokens that a tree has.
 
-use crate::trees::tree_of;
-use c_tree::syntax::{Declaration, External, Initialiser, Item, Parameter, Parameters};
-use c_tree::{At, CFault};
-use std::test::Fail;
-use vp_io::Reason;
+use crate::page::Page;
+use crate::rows::{Row, check};
+use crate::sources::{told, tree_of};
+use c_tree::syntax::{Declaration, External, Initialiser, Item, Parameter, Parameters, Syntax};
+use std::alloc::Global;
 
-fn at(line: u32, column: u32) -> At {
-    At { line, column }
-}
-
-/// The place of the first declared name.
-fn name(part: &External) -> Option<At> {
-    match part {
-        External::Declared(Declaration::Objects(_, _, items)) => object_name(items.as_slice()),
-        External::Declared(Declaration::Function(_, _, name, _)) => Some(name.at),
-        External::Defined { name, .. } => Some(name.at),
-        External::Include(_) => None,
+/// The name, and the brace of the initialiser.
+fn print_item(page: &mut Page, item: &Item) {
+    page.place(item.name.at);
+    match &item.initialiser {
+        Initialiser::List(brace, ..) => page.place(*brace),
+        _ => {}
     }
 }
 
-fn object_name(items: &[Item]) -> Option<At> {
-    match items {
-        [item, ..] => Some(item.name.at),
-        [] => None,
+fn print_parameter(page: &mut Page, parameter: &Parameter) {
+    match &parameter.name {
+        Some(name) => page.place(name.at),
+        None => {}
     }
 }
 
-/// The place of the name of a function's first parameter.
-fn parameter_name(part: &External) -> Option<At> {
-    match part {
-        External::Defined {
-            parameters: Parameters::List(parameters),
-            ..
-        } => first_name(parameters.as_slice()),
-        _ => None,
-    }
-}
-
-fn first_name(parameters: &[Parameter]) -> Option<At> {
+fn print_parameters(page: &mut Page, parameters: &Parameters) {
     match parameters {
-        [
-            Parameter {
-                name: Some(name),
-                ..
-            },
-            ..
-        ] => Some(name.at),
-        _ => None,
+        Parameters::List(list) => {
+            for parameter in list.as_slice() {
+                print_parameter(page, parameter);
+            }
+        }
+        _ => {}
     }
 }
 
-/// The place of the brace of a function's body, or of the first object's initialiser.
-fn brace(part: &External) -> Option<At> {
-    match part {
-        External::Declared(Declaration::Objects(_, _, items)) => first_brace(items.as_slice()),
-        External::Defined { brace, .. } => Some(*brace),
-        _ => None,
+fn print_declaration(page: &mut Page, declaration: &Declaration) {
+    match declaration {
+        Declaration::Objects(_, _, items) => {
+            for item in items.as_slice() {
+                print_item(page, item);
+            }
+        }
+        Declaration::Function(_, _, name, parameters) => {
+            page.place(name.at);
+            print_parameters(page, parameters);
+        }
     }
 }
 
-fn first_brace(items: &[Item]) -> Option<At> {
-    match items {
-        [
-            Item {
-                initialiser: Initialiser::List(at, ..),
-                ..
-            },
+fn print_external(page: &mut Page, external: &External) {
+    match external {
+        External::Declared(declaration) => print_declaration(page, declaration),
+        External::Defined {
+            name,
+            parameters,
+            brace,
             ..
-        ] => Some(*at),
-        _ => None,
+        } => {
+            page.place(name.at);
+            print_parameters(page, parameters);
+            page.place(*brace);
+        }
+        External::Include(_) => {}
+    }
+    page.put(b"; ");
+}
+
+fn print_places(page: &mut Page, tree: &Syntax) {
+    for external in tree.parts.as_slice() {
+        print_external(page, external);
+    }
+    page.place(tree.end);
+}
+
+/// A source, and the places of the names that it declares, of the braces behind them and of its end.
+struct Placed(&'static [u8], &'static [u8]);
+
+impl Row for Placed {
+    fn holds(&self, alloc: Global) -> bool {
+        match tree_of(alloc, self.0) {
+            Ok(tree) => {
+                let mut page = Page::new(alloc);
+                print_places(&mut page, &tree);
+                page.is(self.1)
+            }
+            Err(_) => false,
+        }
     }
 }
+
+const PLACES: [Placed; 2] = [
+    Placed(
+        b"int f(char a){}\nint\n b[1]= {2};\nvoid g();\n",
+        b"1:5 1:12 1:14 ; 3:2 3:8 ; 4:6 ; 5:1 ",
+    ),
+    Placed(b" \n\t /* */ \n", b"3:1 "),
+];
 
 #[test]
-fn names_braces_and_the_end_have_their_places(rt: HostRuntime) -> Result<(), Fail> {
-    let source = b"int f(char a){}\nint\n b[1]= {2};\nvoid g();\n";
-    let tree = tree_of(rt.alloc(), source)?;
-    let parts = tree.parts.as_slice();
-    assert_eq!(rt; parts.len(), 3);
-    assert_eq!(rt; name(&parts[0]), Some(at(1, 5)));
-    assert_eq!(rt; parameter_name(&parts[0]), Some(at(1, 12)));
-    assert_eq!(rt; brace(&parts[0]), Some(at(1, 14)));
-    assert_eq!(rt; name(&parts[1]), Some(at(3, 2)));
-    assert_eq!(rt; brace(&parts[1]), Some(at(3, 8)));
-    assert_eq!(rt; name(&parts[2]), Some(at(4, 6)));
-    assert_eq!(rt; tree.end, at(5, 1));
-    Ok(())
-}
-
-#[test]
-fn blanks_are_an_empty_program(rt: HostRuntime) -> Result<(), Fail> {
-    let tree = tree_of(rt.alloc(), b" \n\t /* */ \n")?;
-    assert!(rt; tree.parts.is_empty());
-    assert_eq!(rt; tree.end, at(3, 1));
-    Ok(())
+fn names_braces_and_the_end_have_their_places(rt: HostRuntime) {
+    check(&rt, rt.alloc(), "places", &PLACES);
 }
 
 #[test]
 fn include_line_in_a_function_is_told(rt: HostRuntime) {
-    let fault = tree_of(rt.alloc(), b"int f(){\n #include <stdio.h>\n}");
-    assert!(rt;
-        matches!(
-            fault,
-            Err(CFault::Bad(Reason {
-                line: 2,
-                column: 2,
-                rule: 5,
-                ..
-            }))
-        )
-    );
+    let answer = tree_of(rt.alloc(), b"int f(){\n #include <stdio.h>\n}");
+    assert!(rt; told(&answer) == Some((2, 2, 5)));
 }

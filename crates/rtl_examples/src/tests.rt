@@ -6,13 +6,16 @@ ghost use Rattle.rtl_spelling.specs.Spelling.{AreApart};
 mod rows;
 mod rules;
 mod substitution;
+mod table;
 mod texts;
 mod tokens;
 mod trees;
 mod values;
 mod words;
 
-use rtl_tree::{Name, NameList, Names, NoMemory, is_name};
+use rtl_text::{TextFault, read_transfer};
+use rtl_tree::{Effects, Name, NameList, Names, NoMemory, is_name};
+use rtl_word::Word;
 use std::alloc::Global;
 
 fn no_names(alloc: Global) -> Names
@@ -43,4 +46,12 @@ fn names(alloc: Global) -> Result<Names, NoMemory>
     let objects = one_name(alloc, b"x")?;
     let functions = one_name(alloc, b"main")?;
     Ok(Names { objects, functions })
+}
+
+/// The transfer that a text spells with these names.
+fn read<W: Word>(alloc: Global, text: &[u8]) -> Result<Effects, TextFault> {
+    match names(alloc) {
+        Ok(names) => read_transfer::<W>(alloc, text, &names),
+        Err(_) => Err(TextFault::NoMemory),
+    }
 }

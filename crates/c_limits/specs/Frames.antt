@@ -50,13 +50,14 @@ abbrev pub arrays : ℕ → List Object → ℕ
 arrays w [] = 0
 arrays w (o ∷ os) = array_in w o.element o.length + arrays w os
 
--- the outgoing arguments, the link, 16 homes in reserve, and a home for each scalar and each depth of evaluation
-abbrev pub frame_words : Function → ℕ
-frame_words f =
-    max 2 (greatest_in arguments_of f.body) + 1 + 16 + length f.params + scalars f.locals + (greatest_in depth_of f.body + 4)
+-- the outgoing arguments, the link, the registers that are kept over calls, 16 homes in reserve, and a home for each scalar and
+-- each depth of evaluation
+abbrev pub frame_words : (kept : List ℕ) → Function → ℕ
+frame_words kept f =
+    max 2 (greatest_in arguments_of f.body) + 1 + length kept + 16 + length f.params + scalars f.locals + (greatest_in depth_of f.body + 4)
 
-abbrev pub frame_bytes : ℕ → Function → ℕ
-frame_bytes w f = word_bytes w * frame_words f + arrays w f.locals
+abbrev pub frame_bytes : (kept : List ℕ) → ℕ → Function → ℕ
+frame_bytes kept w f = word_bytes w * frame_words kept f + arrays w f.locals
 
 -- a helper's name begins with two underscores, as no name of a source does
 abbrev pub is_helper : List ℕ → Bool
@@ -64,5 +65,5 @@ is_helper (a ∷ b ∷ rest) = (a == 95) && (b == 95)
 is_helper _ = false
 
 -- what an active call takes of the stack: its frame and the word of its return, and nothing for a helper
-abbrev pub call_bytes : ℕ → Function → ℕ
-call_bytes w f = if is_helper f.name then 0 else frame_bytes w f + word_bytes w
+abbrev pub call_bytes : (kept : List ℕ) → ℕ → Function → ℕ
+call_bytes kept w f = if is_helper f.name then 0 else frame_bytes kept w f + word_bytes w

@@ -21,12 +21,12 @@ abbrev pub most_weight : ℕ → ℕ
 most_weight w = if w == 16 then 12000 else 100000
 
 -- RULE 41, a frame above 32,000 bytes; RULE 42, a function above 12,000 or one with which all pass their limit, where those before it weigh so much
-abbrev pub function_faults : ℕ → ℕ → List Function → List Reason
-function_faults w before [] = []
-function_faults w before (f ∷ fs) =
-    told_if (nat_lt 32000 (frame_bytes w f)) 41 f.at
-    (told_if (nat_lt 12000 (function_weight f) || nat_lt (most_weight w) (before + function_weight f)) 42 f.at
-    (function_faults w (before + function_weight f) fs))
+abbrev pub function_faults : (kept : List ℕ) → ℕ → ℕ → List Function → List Reason
+function_faults kept w before [] = []
+function_faults kept w before (f ∷ fs) =
+    told_if (nat_lt 32000 (frame_bytes kept w f)) 41 f.at
+    (told_if (nat_lt 12000 (function_weight kept f) || nat_lt (most_weight w) (before + function_weight kept f)) 42 f.at
+    (function_faults kept w (before + function_weight kept f) fs))
 
 -- RULE 43, an object with which the statics pass the room for them, or 60,000, where those before it are so many and take so much
 abbrev pub static_faults : ℕ → ℕ → ℕ → ℕ → List Static → List Reason
@@ -35,9 +35,9 @@ static_faults w room count before (x ∷ xs) =
     told_if (nat_lt room (before + object_bytes w x.object) || nat_lt 60000 (count + 1)) 43 x.object.at
     (static_faults w room (count + 1) (before + object_bytes w x.object) xs)
 
--- where the statics have so many bytes of room
-abbrev pub limit_faults : ℕ → ℕ → Typed → List Reason
-limit_faults w room t = function_faults w 0 t.functions ++ static_faults w room 0 0 t.statics
+-- where these registers are kept over calls, and the statics have so many bytes of room
+abbrev pub limit_faults : (kept : List ℕ) → ℕ → ℕ → Typed → List Reason
+limit_faults kept w room t = function_faults kept w 0 t.functions ++ static_faults w room 0 0 t.statics
 
 -- the earlier place, and at one place the lesser rule
 abbrev pub comes_before : Reason → Reason → Bool

@@ -159,21 +159,23 @@ module _ (locals : List Object) where
   start_weight (start.Value e) = expr_weight e
   start_weight (start.Declared at ls) = locals_weight ls
 
+-- a return brings back each register that is kept over calls
+module _ (kept : List ℕ) (locals : List Object) where
   abbrev pub statement_weight : stat.Stat-F ℕ → ℕ
   statement_weight (stat.Block at ss) = total ss
-  statement_weight (stat.Declare at ls) = locals_weight ls
+  statement_weight (stat.Declare at ls) = locals_weight locals ls
   statement_weight (stat.Evaluate at e) = 1 + option_weight e
   statement_weight (stat.If at e a b) = 8 + expr_weight e + a + or_0 b
   statement_weight (stat.While at e a) = 10 + expr_weight e + a
   statement_weight (stat.DoWhile at a e) = 10 + a + expr_weight e
-  statement_weight (stat.For at first test step a) = 10 + start_weight first + option_weight test + option_weight step + a
+  statement_weight (stat.For at first test step a) = 10 + start_weight locals first + option_weight test + option_weight step + a
   statement_weight (stat.Switch at e ss) = 6 + expr_weight e + total ss
   -- 4 of the switch for each of its cases
   statement_weight (stat.Case at v a) = 4 + a
   statement_weight (stat.Default at a) = a
   statement_weight (stat.Break at) = 1
   statement_weight (stat.Continue at) = 1
-  statement_weight (stat.Return at e) = 4 + option_weight e
+  statement_weight (stat.Return at e) = 4 + length kept + option_weight e
 
   abbrev pub stat_weight : Stat → ℕ
   stat_weight = fold-Stat ℕ statement_weight
@@ -185,6 +187,6 @@ module _ (locals : List Object) where
   else_weight None = 0
   else_weight (Some s) = stat_weight s
 
--- 16 of the 48 are for the passes
-abbrev pub function_weight : Function → ℕ
-function_weight f = 48 + 2 * length f.params + stat_weight f.locals f.body
+-- 16 of the 48 are for the passes; each kept register is saved at entry, and brought back at the end
+abbrev pub function_weight : (kept : List ℕ) → Function → ℕ
+function_weight kept f = 48 + 2 * length f.params + 2 * length kept + stat_weight kept f.locals f.body

@@ -1,6 +1,6 @@
 //! How many bytes objects and frames take.
 
-ghost use Rattle.std.specs.Prelude.{◌≡◌, ◌+◌, ◌*◌, ◌<◌, ◌≤◌, ◌⊎◌, ◌^◌};
+ghost use Rattle.std.specs.Prelude.{◌≡◌, ◌+◌, ◌*◌, ◌<◌, ◌≤◌, ◌⊎◌, ◌^◌, []};
 ghost use Rattle.c_limits.specs.Sums.{capped};
 ghost use Rattle.c_limits.specs.Frames.{array_bytes, array_in, arrays, bytes_by, element_bytes, frame_bytes, object_bytes, scalar_in, scalars, word_bytes};
 
@@ -77,11 +77,11 @@ fn arrays<W: Word>(objects: &[Object]) -> u64
     sum
 }
 
-/// The bytes of a function's frame: the outgoing arguments, the link, 16 homes in reserve, a home
-/// for each parameter, local scalar and depth of evaluation, and the arrays. Of frames from
+/// The bytes of a function's frame where no register is kept over calls: the outgoing arguments, the link, 16 homes in reserve, a
+/// home for each parameter, local scalar and depth of evaluation, and the arrays. Of frames from
 /// `2^64 - 1` bytes on it gives that number.
 pub fn frame_of<W: Word>(f: &Function) -> u64
-    ensures { result ≡ capped (frame_bytes W.BITS f.now) }
+    ensures { result ≡ capped (frame_bytes [] W.BITS f.now) }
 {
     let needs = in_stat(f.body.get());
     let homes = (f.params.len() as u64).saturating_add(scalars(f.locals.as_slice()) as u64);

@@ -65,7 +65,7 @@ fn most_weight<W: Word>() -> u64
 }
 
 fn has_large_frame<W: Word>(f: &Function) -> bool
-    ensures { result ≡ nat_lt 32000 (frame_bytes W.BITS f.now) }
+    ensures { result ≡ nat_lt 32000 (frame_bytes [] W.BITS f.now) }
 {
     frame_of::<W>(f) > MOST_FRAME
 }
@@ -83,7 +83,7 @@ fn are_too_many(room: u64, sum: u64, count: usize) -> bool
 }
 
 fn first_in_functions<W: Word>(functions: &[Function]) -> Option<Reason>
-    ensures { result ≡ first_of None (function_faults W.BITS 0 functions.now) }
+    ensures { result ≡ first_of None (function_faults [] W.BITS 0 functions.now) }
 {
     let mut first = None;
     let mut sum: u64 = 0;
@@ -110,12 +110,12 @@ fn first_in_statics<W: Word>(first: Option<Reason>, room: u64, statics: &[Static
 }
 
 /// Whether a source is within the limits on frames, weights and statics (rules 41 to 43), where memory
-/// has so many bytes, data begin at `base`, and so many bytes at memory's end are the stack's; else the
-/// first place where a limit is passed, and there the first rule.
+/// has so many bytes, data begin at `base`, so many bytes at memory's end are the stack's, and no register is kept over calls; else
+/// the first place where a limit is passed, and there the first rule.
 pub fn within<W: Word>(t: &Typed, memory: u32, base: u32, stack: u32) -> Result<(), Reason>
     requires { base + stack < memory }
-    ensures within { OnOk result (limit_faults W.BITS (memory - stack - base) t.now ≡ []) }
-    ensures refused { IfErr result (λ r. IsFirst (limit_faults W.BITS (memory - stack - base) t.now) r) }
+    ensures within { OnOk result (limit_faults [] W.BITS (memory - stack - base) t.now ≡ []) }
+    ensures refused { IfErr result (λ r. IsFirst (limit_faults [] W.BITS (memory - stack - base) t.now) r) }
 {
     let room = u64::from(memory - stack - base);
     let first = first_in_functions::<W>(t.functions.as_slice());

@@ -1,6 +1,6 @@
 //! What functions weigh.
 
-ghost use Rattle.std.specs.Prelude.{◌≡◌, ◌+◌, ◌≤◌, if◌then◌else◌, length, nat_lt, slice_get};
+ghost use Rattle.std.specs.Prelude.{◌≡◌, ◌+◌, ◌≤◌, if◌then◌else◌, length, nat_lt, slice_get, []};
 ghost use Rattle.c_limits.specs.Sums.{capped};
 ghost use Rattle.c_limits.specs.Weights.{arithmetic_weight, assigned_weight, binary_weight, block_weight, conversion_weight, each_of, else_weight, function_weight, init_weight, length_of, locals_weight, operation_weight, option_weight, place_of, read_weight, start_weight, stat_weight, unary_weight, weight_in};
 ghost use Rattle.c_limits.specs.Capped.{capped_weight};
@@ -276,7 +276,7 @@ fn start_weight(locals: &[Object], start: &Start) -> u64
 
 #[cycle(statements)]
 fn block_weight(locals: &[Object], ss: &[Boxed<Stat>]) -> u64
-    ensures { result ≡ capped (block_weight locals.now ss.now) }
+    ensures { result ≡ capped (block_weight [] locals.now ss.now) }
 {
     let mut sum: u64 = 0;
     for s in ss {
@@ -287,7 +287,7 @@ fn block_weight(locals: &[Object], ss: &[Boxed<Stat>]) -> u64
 
 #[cycle(statements)]
 fn else_weight(locals: &[Object], s: &Option<Boxed<Stat>>) -> u64
-    ensures { result ≡ capped (else_weight locals.now s.now) }
+    ensures { result ≡ capped (else_weight [] locals.now s.now) }
 {
     match s {
         None => 0,
@@ -297,7 +297,7 @@ fn else_weight(locals: &[Object], s: &Option<Boxed<Stat>>) -> u64
 
 #[cycle(statements)]
 fn stat_weight(locals: &[Object], s: &Stat) -> u64
-    ensures { result ≡ capped (stat_weight locals.now s.now) }
+    ensures { result ≡ capped (stat_weight [] locals.now s.now) }
 {
     match s {
         Stat::Block(_, ss) => block_weight(locals, ss.as_slice()),
@@ -329,7 +329,7 @@ fn stat_weight(locals: &[Object], s: &Stat) -> u64
 /// The weight of a function: its plain code has no more transfers. Of weights from `2^64 - 1` on it
 /// gives that number.
 pub fn weight_of(f: &Function) -> u64
-    ensures { result ≡ capped (function_weight f.now) }
+    ensures { result ≡ capped (function_weight [] f.now) }
 {
     let entry = (f.params.len() as u64).saturating_mul(2).saturating_add(48);
     entry.saturating_add(stat_weight(f.locals.as_slice(), f.body.get()))

@@ -3,3 +3,4 @@ pub mod Expressions
 pub mod Statements
 pub mod Runs
 pub mod WorkedRuns
+pub mod Agreement

@@ -3,6 +3,8 @@ pub mod Parts
 pub mod Expressions
 pub mod Statements
 pub mod Run
+pub mod Settings
+pub mod Agreement
 pub mod Sketches
 pub mod Worked
 pub mod Laws

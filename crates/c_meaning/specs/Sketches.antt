@@ -25,6 +25,7 @@ use Rattle.c_tree.specs.declared.typed.Typed.{Typed}
 use Rattle.behaviour.specs.Behaviour.{Behaviour, Failed, Undefined}
 use Rattle.behaviour.specs.Run.{Run}
 use Rattle.c_meaning.specs.Parts.{Setting}
+use Rattle.c_meaning.specs.Settings.{setting_of}
 use Rattle.c_meaning.specs.Run.{source_run}
 
 abbrev pub column : ℕ → At
@@ -121,9 +122,9 @@ program fs = record { statics = []; functions = fs }
 abbrev pub main_alone : List Object → List Stat → Typed
 main_alone locals body = program (main locals body ∷ [])
 
--- 16 bits, and a stack for four calls
+-- words of 16 bits, and a stack of 476 bytes: 256, 52 for `int main(void){return f();}`, and 56 for each of three calls
 abbrev pub small : Setting
-small = record { bits = 16; stack = 656; takes = λ f. 100 }
+small = setting_of [] 16 476
 
 abbrev pub run : Typed → Run
 run t = source_run small t []

@@ -1,5 +1,6 @@
-//! What a greater bound shows. The functions do nothing: each promises a law.
+//! What a greater bound shows, and what operators give. The functions do nothing: each promises a law.
 
+ghost use Rattle.c_meaning.specs.Agreement.{OperatorsAgree};
 ghost use Rattle.c_meaning.specs.Laws.{EndedIsClean, EndsStand, FailuresStand, OutputGrows, SourceIsRun};
 
 /// What ended within a bound ends alike within each greater one.
@@ -26,4 +27,9 @@ pub fn source_is_run()
 /// A source that ends does nothing undefined, and its stack suffices.
 pub fn ended_is_clean()
     ensures { EndedIsClean }
+{}
+
+/// A constant expression has a value just where a run does nothing undefined, and it is the same.
+pub fn operators_agree()
+    ensures { OperatorsAgree }
 {}

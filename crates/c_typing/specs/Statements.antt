@@ -92,12 +92,13 @@ faulty_unless v None rule at = sound
 faulty_unless None (Some e) rule at = broken rule at
 faulty_unless (Some v) (Some e) rule at = sound
 
--- RULE 17, an absent size without an initialiser in braces, which would say how many elements there are
+-- how many elements there are where the size is absent: those that stand in braces
 abbrev pub listed : Initialiser → Option ℕ
 listed (initialiser.List at es b) = Some (length es)
 listed initialiser.Absent = None
 listed (initialiser.Value e) = None
 
+-- RULE 17, an absent size without an initialiser
 abbrev pub is_absent : Initialiser → Bool
 is_absent initialiser.Absent = true
 is_absent (initialiser.Value e) = false

@@ -1,0 +1,156 @@
+#!/usr/bin/env python3
+"""Times the front end of C, `c_source::tree_of` and `c_types::type_program`, on growing sources, and prints a table with the ratios of one run.
+
+No command of the program goes through typing yet, so a small program is made and built in a temporary folder, with the repository's crates
+beside it: by `rt run`, which takes over what was proved of them on this machine, or with `--unproved` by `rt try`, which proves nothing and
+compiles with checks, so that its times are many times longer; there the sources have an eighth of the size. The program reads all sources and
+prints for each how long its parts took, which leaves out the start of the process and the reading.
+
+The sources have up to 1 MiB: many functions; one function of many statements; blocks that nest to the limit, each with names of its own
+and uses of those around it; and one switch of many cases.
+"""
+import os
+import shutil
+import statistics
+import subprocess
+import sys
+import tempfile
+
+ROOT = os.path.dirname(os.path.dirname(os.path.abspath(__file__)))
+SIZES = (1 << 17, 1 << 18, 1 << 19, 1 << 20)
+RUNS = 3
+# each block is a statement and a block, and a statement and an assignment stand within
+DEEPEST = 97
+
+PROGRAM = """//! Types the sources from standard input, which stand apart by a byte 1, and tells how long that takes.
+#![tactic(auto)]
+
+use c_tree::CFault;
+use c_types::type_program;
+use rtl_word::W32;
+use std::io::{self, Read, Write};
+use std::time::Instant;
+
+fn typed(rt: &HostRuntime, text: &[u8]) -> io::Result<()> {
+    if text.len() > 1_048_576 {
+        return Ok(());
+    }
+    let alloc = rt.alloc();
+    let begin = Instant::now(rt)?;
+    let tree = c_source::tree_of(alloc, text);
+    let parsed = begin.elapsed(rt)?.as_micros();
+    let begin = Instant::now(rt)?;
+    let told = match tree {
+        Ok(syntax) => match type_program::<W32>(alloc, &syntax) {
+            Ok(_) => 0,
+            Err(CFault::Bad(reason)) => reason.rule,
+            Err(CFault::NoMemory) => 255,
+        },
+        Err(_) => 254,
+    };
+    let taken = begin.elapsed(rt)?.as_micros();
+    writeln!(io::writer(rt), "rule {told} {parsed} {taken}")
+}
+
+fn main(rt: HostRuntime) -> io::Result<()> {
+    let mut text = Vec::new(rt.alloc());
+    rt.stdin().read_to_end(&mut text)?;
+    for part in text.as_slice().split(|b| *b == 1) {
+        typed(&rt, part)?;
+    }
+    Ok(())
+}
+"""
+
+END = "int main(void){return 0;}"
+
+
+def repeated(before, unit, behind, size):
+    """What stands before, as many units as fit, each made of its number, and what stands behind."""
+    parts = [before]
+    room = size - len(before) - len(behind)
+    number = 0
+    while len(part := unit(number)) <= room:
+        parts.append(part)
+        room -= len(part)
+        number += 1
+    return "".join(parts) + behind
+
+
+def functions(size):
+    return repeated("", lambda n: f"int f{n}(int a,int b){{int c;c=a*{n % 1000};return c+b;}}", END, size)
+
+
+def statements(size):
+    return repeated("int main(void){int x=0;", lambda n: f"x=x+{n % 1000};", "}", size)
+
+
+def nest(number):
+    inner = "".join(f"{{int n{number}_{d}=n{number}_{d - 1};" for d in range(1, DEEPEST))
+    return f"{{int n{number}_0=0;{inner}n{number}_{DEEPEST - 1}=n{number}_0;{'}' * DEEPEST}"
+
+
+def blocks(size):
+    return repeated("int main(void){", nest, "}", size)
+
+
+def cases(size):
+    return repeated("int main(void){switch(1){", lambda n: f"case {n}:;", "}}", size)
+
+
+def folder_of(temporary):
+    """The repository's crates, and the program."""
+    shutil.copytree(os.path.join(ROOT, "crates"), os.path.join(temporary, "crates"), ignore=shutil.ignore_patterns("out"))
+    shutil.copy(os.path.join(ROOT, "HANDLES"), temporary)
+    source = os.path.join(temporary, "crates", "typist", "src")
+    os.makedirs(source)
+    with open(os.path.join(source, "main.rt"), "w") as file:
+        file.write(PROGRAM)
+    with open(os.path.join(ROOT, "crates.txt")) as file:
+        lines = file.read()
+    names = [line.split(":")[0] for line in lines.splitlines() if line.startswith("c_") and not line.startswith("c_examples")]
+    with open(os.path.join(temporary, "crates.txt"), "w") as file:
+        file.write(f"{lines}typist: {' '.join(names)} rtl_word vp_io sqlite_items\n")
+    return os.path.dirname(source)
+
+
+def run(command, folder, sources):
+    """For each source the rule that is told, and the microseconds for its tree and for typing it."""
+    done = subprocess.run(command, cwd=folder, input="\x01".join(sources).encode(), capture_output=True)
+    lines = [line.removeprefix("| ").split() for line in done.stdout.decode().splitlines()]
+    answers = [[int(word) for word in words[1:]] for words in lines if len(words) == 4 and words[0] == "rule"]
+    if len(answers) != len(sources) or any(answer[0] != 0 for answer in answers):
+        sys.exit(f"no answer: {answers}: {(done.stdout + done.stderr).decode()[-2000:]}")
+    return answers
+
+
+def main():
+    unproved = sys.argv[1:] == ["--unproved"]
+    kinds = [
+        ("many functions", functions),
+        ("one function of many statements", statements),
+        ("deep blocks with many names", blocks),
+        ("one switch of many cases", cases),
+    ]
+    sizes = [size // 8 if unproved else size for size in SIZES]
+    sources = [source(size) for _, source in kinds for size in sizes]
+    with tempfile.TemporaryDirectory() as temporary:
+        folder = folder_of(temporary)
+        if unproved:
+            command, runs = ["rt", "try", "--seconds", "600"], 1
+        else:
+            run(["rt", "run"], folder, [END])
+            command, runs = [os.path.join(folder, "out", "typist")], RUNS
+        answers = [run(command, folder, sources) for _ in range(runs)]
+    print("| Source | Bytes | Tree, seconds | Ratio | Typing, seconds | Ratio |")
+    print("|---|---|---|---|---|---|")
+    for number, source in enumerate(sources):
+        tree, typing = (statistics.median(answer[number][part] for answer in answers) / 1e6 for part in (1, 2))
+        first = number % len(sizes) == 0
+        ratios = ["" if first else f"{now / then:.1f}" for now, then in ((tree, before[0]), (typing, before[1]))] if number else ["", ""]
+        print(f"| {kinds[number // len(sizes)][0]} | {len(source)} | {tree:.3f} | {ratios[0]} | {typing:.3f} | {ratios[1]} |")
+        before = tree, typing
+
+
+if __name__ == "__main__":
+    main()

@@ -1,11 +1,11 @@
 -- Bytes that wait to be written, and bytes that are taken of a source until its end was seen.
-use Rattle.std.specs.Prelude.{ℕ, ◌≡◌, List, [], ◌∷◌, true, false, Bool, Option, Some, None, Result, Ok}
-use Rattle.std.specs.Io.KnownBytes.{Appends, Consumes, append_known, IsAtEnd}
+use Rattle.std.specs.Prelude.{ℕ, ◌≡◌, List, [], ◌∷◌, ◌++◌, true, false, Bool, Option, Some, None, Result, Ok}
+use Rattle.std.specs.Io.KnownBytes.{Appends, Consumes, IsAtEnd}
 use Rattle.vp_io.specs.Counts.{Rose}
 
--- what was written, with what waits behind it, has grown by these bytes
+-- what waited, with these bytes behind, is what was written since and then what waits now
 abbrev pub Prints : Option (List ℕ) → List ℕ → Option (List ℕ) → List ℕ → List ℕ → Type 0
-Prints old waited new waits out = Appends (append_known old waited) (append_known new waits) out
+Prints old waited new waits out = (now : List ℕ) × Appends old new now × (waited ++ out ≡ now ++ waits)
 
 -- a byte is taken, or nothing is: at the end, or where the read failed
 abbrev pub TakesByte : {E : Type 0} → Option (List ℕ) → Option (List ℕ) → Result (Option ℕ) E → Type 0

@@ -1,4 +1,4 @@
-//! Assignments whose sides were evaluated.
+//! Assignments that were evaluated.
 
 /// An assignment whose side and address were evaluated.
 #[derive(Clone, Copy, Debug, PartialEq, Eq)]
@@ -12,6 +12,23 @@ pub enum Assigned {
     Next { place: u32 },
     Printed { byte: u8 },
     Ended { status: u8 },
-    /// The low bytes of a value go to memory.
-    Stored { at: u32, count: u32, value: u32 },
+    Bytes(Stored),
+}
+
+/// The low bytes of a value that go to memory.
+#[derive(Clone, Copy, Debug, PartialEq, Eq)]
+pub struct Stored {
+    pub at: u32,
+    pub count: u32,
+    pub value: u32,
+}
+
+/// What a transfer makes beside registers and flags: where the program goes on, the byte that is printed, the status with which the
+/// program ends, and what is stored.
+#[derive(Clone, Copy, Debug, PartialEq, Eq)]
+pub struct Outcome {
+    pub place: u32,
+    pub printed: Option<u8>,
+    pub status: Option<u8>,
+    pub stored: Option<Stored>,
 }

@@ -1,0 +1,5 @@
+pub mod Traps
+pub mod Linking
+pub mod Bytes
+pub mod Whole
+pub mod Joined

@@ -44,6 +44,9 @@ flag_other (f ∷ fs) (suc n) (suc k) p h = flag_other fs n k p (λ e. h (ap (λ
 same_of_test : (a b : ℕ) → (a == b) ≡ true → a ≡ b
 same_of_test a b e = grind (arith, nat_tests, e)
 
+no_zero : (x : ℕ) → (suc x == 0) ≡ false
+no_zero x = grind (arith, nat_tests)
+
 other_of_test : (a b : ℕ) → (a == b) ≡ false → b ≢ a
 other_of_test a b e h = grind (arith, nat_tests, e, h)
 
@@ -130,7 +133,7 @@ module _ (w : ℕ) (s : State) (v : View) (h : Shows w s v) where
 
   chosen_cases : (x y : ℕ) → chosen v (Some x) (Some y) ≡ Ok (Some (cond (x == 0) s.next_place y))
   chosen_cases zero y = just _ _ (h.cells Pc tt)
-  chosen_cases (suc x) y = refl
+  chosen_cases (suc x) y = just _ _ (ap (λ b. Some (cond b s.next_place y)) (sym (no_zero x)))
 
   when_cases : (c l : Tree) (x y : Result ℕ Trap) → seen w c v ≡ lifted x → target w l v ≡ lifted y
       → Evaluates (ToCell Pc) (Binary When c l) (and_go x (λ p. and_go y (λ q. Ok (Next (cond (p == 0) s.next_place q)))))
@@ -198,16 +201,16 @@ module _ (w : ℕ) (s : State) (v : View) (h : Shows w s v) where
 
   -- what was made of a transfer, beside what the definition assigns
   pub record MadeAs (ms : List Move) (d : Made) : Type 0 where
-    cells : (k : ℕ) → k < 64 → cell_after w (assigned ms (Hard k)) v (v.cells (Hard k)) ≡ Some (slice_index d.registers k)
-    flags : (k : ℕ) → mark_after w (assigned ms (Flag k)) v (v.flags k) ≡ mark_of (slice_get d.flags k)
-    goes : went w (assigned ms Pc) v ≡ Ok (Some d.outcome.place)
-    prints : event w (assigned ms Output) v ≡ Ok d.outcome.printed
-    ends : event w (assigned ms Halt) v ≡ Ok d.outcome.status
-    stores : patch_of w (storing ms) v ≡ Ok (patch_for d.outcome.stored)
-    fits_memory : IsStored (length s.memory) d.outcome.stored
-    many : length d.registers ≡ 64
-    eight : length d.flags ≡ 8
-    temps : (k : ℕ) → assigned ms (Temp k) ≡ None
+    pub cells : (k : ℕ) → k < 64 → cell_after w (assigned ms (Hard k)) v (v.cells (Hard k)) ≡ Some (slice_index d.registers k)
+    pub flags : (k : ℕ) → mark_after w (assigned ms (Flag k)) v (v.flags k) ≡ mark_of (slice_get d.flags k)
+    pub goes : went w (assigned ms Pc) v ≡ Ok (Some d.outcome.place)
+    pub prints : event w (assigned ms Output) v ≡ Ok d.outcome.printed
+    pub ends : event w (assigned ms Halt) v ≡ Ok d.outcome.status
+    pub stores : patch_of w (storing ms) v ≡ Ok (patch_for d.outcome.stored)
+    pub fits_memory : IsStored (length s.memory) d.outcome.stored
+    pub many : length d.registers ≡ 64
+    pub eight : length d.flags ≡ 8
+    pub temps : (k : ℕ) → assigned ms (Temp k) ≡ None
 
   none_made : length s.registers ≡ 64 → length s.flags ≡ 8 → MadeAs [] (unmade s)
   none_made many eight = record {
@@ -327,7 +330,7 @@ module _ (w : ℕ) (s : State) (v : View) (h : Shows w s v) where
   comes named given [] many eight a i = made _ refl (none_made many eight)
   comes named given (m ∷ ms) many eight a i =
       move_comes given m.to m.value ms (assigned_to w m.to m.value s) (made_by w given ms s) (λ e. i (ap (λ b. cond b true (takes ms)) e))
-      (evaluates named m.to m.value (All-head a)) (comes named given ms many eight (All-tail a) (λ e. i (true_then (is_input m.value) (takes ms) e)))
+      (evaluates named m.to m.value (All-head (λ q. IsSideOf named w q.to q.value) m ms a)) (comes named given ms many eight (All-tail (λ q. IsSideOf named w q.to q.value) m ms a) (λ e. i (true_then (is_input m.value) (takes ms) e)))
 
   pub effect_made : (ms : List Move) (d : Made) → tested w ms v ≡ Ok tt → MadeAs ms d
       → effect w ms v ≡ Ok (record { view = view_after w ms (patch_for d.outcome.stored) v; place = Some d.outcome.place; output = d.outcome.printed; halt = d.outcome.status })

@@ -115,8 +115,8 @@ some_is t ms e = ap (λ o. some_of o t) e
 
 made_at : (w : ℕ) (ts : List (List Move)) → All (IsMade w) ts → (k : ℕ) (ms : List Move) → slice_get ts k ≡ Some ms → IsMade w ms
 made_at w [] a k ms e = absurd (let n : None ≡ Some ms = e in cc)
-made_at w (t ∷ ts) a zero ms e = subst (IsMade w) (some_is t ms e) (All-head a)
-made_at w (t ∷ ts) a (suc k) ms e = made_at w ts (All-tail a) k ms e
+made_at w (t ∷ ts) a zero ms e = subst (IsMade w) (some_is t ms e) (All-head (IsMade w) t ts a)
+made_at w (t ∷ ts) a (suc k) ms e = made_at w ts (All-tail (IsMade w) t ts a) k ms e
 
 pub turn_is_turn : TurnIsTurn
 turn_is_turn p a place s many eight given more m st e =

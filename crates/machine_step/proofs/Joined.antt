@@ -57,6 +57,12 @@ no_turn w p n taken out turns h =
     subst (λ k. HasRun w p n (taken ++ []) (out ++ []) k) same
     (subst (λ o. HasRun w p n (taken ++ []) o turns) (sym (append-nil out)) (subst (λ t. HasRun w p n t out turns) (sym (append-nil taken)) h))
 
+-- what waits, and why the machine stopped, is no part of where the run has come
+noted_run : (w : ℕ) (p : Code) (m : Running) (waiting : List ℕ) (stopped : Option Stop) (taken out : List ℕ) (turns : ℕ) → HasRun w p m taken out turns
+    → HasRun w p (record m { waiting = waiting; stopped = stopped }) taken out turns
+noted_run w p m waiting stopped taken out turns h more f =
+    let c = h more f in record { state = c.state; leads = c.leads; stands = c.stands; printed_is = c.printed_is }
+
 -- before a turn is made
 pub none_ran : (w : ℕ) (code : List (List Move)) (m : Running) (left written : Option (List ℕ)) (ends : ℕ) → AllRan w code m m left left written written ends ends 0 None
 none_ran w code m left written ends p is taken out turns h = record {
@@ -74,7 +80,7 @@ none_ran w code m left written ends p is taken out turns h = record {
 
 -- all turns were made, and what waited was written
 pub spent_ran : (w : ℕ) (code : List (List Move)) (m : Running) (waiting : List ℕ) (left written written' : Option (List ℕ)) (ends : ℕ) → waiting ≡ []
-    → Appends written written' m.waiting → AllRan w code m (record m { waiting = waiting }) left left written written' ends ends 0 (Some Spent)
+    → Appends written written' m.waiting → AllRan w code m (record m { waiting = waiting; stopped = m.stopped }) left left written written' ends ends 0 (Some Spent)
 spent_ran w code m waiting left written written' ends e a p is taken out turns h = record {
   bytes = [];
   printed = [];
@@ -85,7 +91,7 @@ spent_ran w code m waiting left written written' ends e a p is taken out turns h
   consumes = consumes_nothing left;
   prints = prints_waiting written written' m.waiting a;
   mark = marks_none m.reader.ended ends left;
-  run = (refl, e, no_turn w p m taken out turns h);
+  run = (refl, e, noted_run w p m waiting m.stopped (taken ++ []) (out ++ []) (turns + 0) (no_turn w p m taken out turns h));
 }
 
 -- all turns were made, and the write failed

@@ -3,3 +3,4 @@ pub mod Linking
 pub mod Bytes
 pub mod Whole
 pub mod Joined
+pub mod Settling

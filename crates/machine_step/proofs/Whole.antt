@@ -18,7 +18,7 @@ use Rattle.machine_effect.proofs.Turning.{turn_is_turn}
 use Rattle.machine_step.specs.declared.running.Running.{Running}
 use Rattle.machine_step.specs.declared.running.Stop.{Stop}
 use Rattle.machine_step.specs.declared.running.Stop.TheVariants.{Ended, Trapped, Spent, ReadFault, WriteFault}
-use Rattle.machine_step.specs.Steps.{out_of, GoesTo, EndsAs, Answers, HaltIs, SawEnd, MarkMoves, Takes, tested_on, ByTurn, ByTrap, FaultIs, ByFault, StepIs, by_turn, by_trap, by_fault}
+use Rattle.machine_step.specs.Steps.{out_of, GoesTo, EndsAs, Answers, HaltIs, as_meant, by_write, SawEnd, MarkMoves, Takes, tested_on, ByTurn, ByTrap, FaultIs, ByFault, StepIs, by_turn, by_trap, by_fault}
 use Rattle.machine_step.specs.Runs.{linked_moves, IsCodeOf, named, Comes, MayFollow, HasRun, ReachesInput, RunIs, MadeAll, Ran, AllRan}
 use Rattle.machine_step.proofs.Traps.{turn_traps}
 use Rattle.machine_step.proofs.Linking.{named_turned, turn_linked, tests_linked, takes_at_linked, line_linked}
@@ -42,25 +42,18 @@ fails_at : (p : Code) (s : MachineState) (n : ℕ) (input out : List ℕ) (kind 
     → ((j : ℕ) → run_by (turn p) shown (n + j) (start p input) ≡ run_by (turn p) shown j s) → machine_run p input (n + 1) ≡ Failed out (TrappedBy kind place)
 fails_at p s n input out kind place e h = h 1 ∙ rw e refl
 
-goes_at : (p : Code) (s : MachineState) (n : ℕ) (input : List ℕ) → ((j : ℕ) → run_by (turn p) shown (n + j) (start p input) ≡ run_by (turn p) shown j s)
+pub goes_at : (p : Code) (s : MachineState) (n : ℕ) (input : List ℕ) → ((j : ℕ) → run_by (turn p) shown (n + j) (start p input) ≡ run_by (turn p) shown j s)
     → machine_run p input (n + 0) ≡ GoingOn s.printed
 goes_at p s n input h = h 0
 
+ends_output : (p : Code) (s : MachineState) (out : List ℕ) (status : ℕ) → turn p s ≡ Stops out status → output (run_by (turn p) shown 1 s) ≡ out
+ends_output p s out status e = rw e refl
+
+fails_output : (p : Code) (s : MachineState) (out : List ℕ) (kind place : ℕ) → turn p s ≡ Fails out (TrappedBy kind place) → output (run_by (turn p) shown 1 s) ≡ out
+fails_output p s out kind place e = rw e refl
+
 goes_output : (p : Code) (s t : MachineState) → turn p s ≡ Goes t → output (run_by (turn p) shown 1 s) ≡ t.printed
 goes_output p s t e = rw e refl
-
-abbrev is_trap : Stop → Bool
-is_trap (Trapped kind place) = true
-is_trap _ = false
-
-no_trap_ends : (status kind place : ℕ) → Ended status ≡ Trapped kind place → ⊥
-no_trap_ends status kind place e = let z : false ≡ true = ap is_trap e in cc
-
-no_trap_spends : (kind place : ℕ) → Spent ≡ Trapped kind place → ⊥
-no_trap_spends kind place e = let z : false ≡ true = ap is_trap e in cc
-
-no_trap_reads : (kind place : ℕ) → ReadFault ≡ Trapped kind place → ⊥
-no_trap_reads kind place e = let z : false ≡ true = ap is_trap e in cc
 
 end_means : (b : Bool) (given : Option ℕ) (ended : Bool) (more : List ℕ) → SawEnd b given ended → (ended ≡ true → more ≡ []) → EndMeans b given more
 end_means true None ended more h k = k h
@@ -97,12 +90,12 @@ module _ (p : Code) (code : List (List Move)) (made : All (IsMade p.word) p.tran
          (subst (λ b. EndMeans b given more) (takes_is m.place) e))
 
     -- a trap doesn't depend on the byte that is next
-    first_given : Bool → List ℕ → Option ℕ
+    abbrev first_given : Bool → List ℕ → Option ℕ
     first_given true (b ∷ bs) = Some b
     first_given true [] = None
     first_given false more = None
 
-    first_rest : Bool → List ℕ → List ℕ
+    abbrev first_rest : Bool → List ℕ → List ℕ
     first_rest true (b ∷ bs) = bs
     first_rest true [] = []
     first_rest false more = more
@@ -175,8 +168,9 @@ module _ (p : Code) (code : List (List Move)) (made : All (IsMade p.word) p.tran
             → output (machine_run p ((taken ++ bytes) ++ more) (turns + 1)) ≡ out ++ out_of t
         prints_run (On s place o) more c h =
             ap output (c.leads 1) ∙ goes_output p c.state h.0 h.1 ∙ h.3 ∙ ap (λ x. x ++ o) c.printed_is
-        prints_run (Ends o status) more c h = ap output (c.leads 1 ∙ rw h refl) ∙ ap (λ x. x ++ o) c.printed_is
-        prints_run (TrapsBy trap) more c h = ap output (c.leads 1 ∙ rw h refl) ∙ c.printed_is ∙ sym (append-nil out)
+        prints_run (Ends o status) more c h = ap output (c.leads 1) ∙ ends_output p c.state (c.state.printed ++ o) status h ∙ ap (λ x. x ++ o) c.printed_is
+        prints_run (TrapsBy trap) more c h =
+            ap output (c.leads 1) ∙ fails_output p c.state c.state.printed (trap_number trap) c.state.place h ∙ c.printed_is ∙ sym (append-nil out)
 
         turn_ran : (r : Option Stop) → Answers turned m.waiting n written written' r
             → Ran p.word p m n left left' written written' ends ends' taken out turns 1 r
@@ -202,26 +196,32 @@ module _ (p : Code) (code : List (List Move)) (made : All (IsMade p.word) p.tran
       nothing_taken : (more : List ℕ) → (taken ++ []) ++ more ≡ taken ++ more
       nothing_taken more = ap (λ t. t ++ more) (append-nil taken)
 
-      halt_ran : (trap : Trap) (r : Stop) → tested_on p.word (slice_get code m.place) m.place here ≡ Err trap
-          → HaltIs written written' m.waiting (Trapped (trap_number trap) m.place) r → Consumes left left' []
-          → MarkMoves m.reader.ended n.reader.ended ends ends' left left' []
-          → Ran p.word p m n left left' written written' ends ends' taken out turns 1 (Some r)
-      halt_ran trap WriteFault e h k i = record {
-        bytes = []; printed = []; rest = h.0; made = 0; within = omega arith; all = tt; consumes = k; prints = h.1; mark = i;
+      meant_ran : (trap : Trap) → tested_on p.word (slice_get code m.place) m.place here ≡ Err trap → Prints written m.waiting written' [] []
+          → Consumes left left' [] → MarkMoves m.reader.ended n.reader.ended ends ends' left left' []
+          → Ran p.word p m n left left' written written' ends ends' taken out turns 1 (Some (Trapped (trap_number trap) m.place))
+      meant_ran trap e h k i = record {
+        bytes = []; printed = []; rest = []; made = 1; within = omega arith; all = tt; consumes = k; prints = h; mark = i;
+        run = (refl, (λ more f. let c = before [] more i f in
+            fails_at p c.state turns ((taken ++ []) ++ more) c.state.printed (trap_number trap) m.place (trap_comes trap more c.state e c.stands) c.leads
+            ∙ ap (λ x. Failed x (TrappedBy (trap_number trap) m.place)) (c.printed_is ∙ sym (append-nil out))));
+      }
+
+      lost_ran : (lost : List ℕ) → Prints written m.waiting written' lost [] → Consumes left left' [] → MarkMoves m.reader.ended n.reader.ended ends ends' left left' []
+          → Ran p.word p m n left left' written written' ends ends' taken out turns 1 (Some WriteFault)
+      lost_ran lost h k i = record {
+        bytes = []; printed = []; rest = lost; made = 0; within = omega arith; all = tt; consumes = k; prints = h; mark = i;
         run = λ more f. let c = before [] more i f in
           ap output (goes_at p c.state turns ((taken ++ []) ++ more) c.leads) ∙ c.printed_is ∙ sym (append-nil out);
       }
-      halt_ran trap (Trapped kind place) e h k i =
-          subst (λ s. Ran p.word p m n left left' written written' ends ends' taken out turns 1 (Some s)) (sym h.0)
-          (record {
-            bytes = []; printed = []; rest = []; made = 1; within = omega arith; all = tt; consumes = k; prints = h.1; mark = i;
-            run = (refl, (λ more f. let c = before [] more i f in
-                fails_at p c.state turns ((taken ++ []) ++ more) c.state.printed (trap_number trap) m.place (trap_comes trap more c.state e c.stands) c.leads
-                ∙ ap (λ x. Failed x (TrappedBy (trap_number trap) m.place)) (c.printed_is ∙ sym (append-nil out))));
-          })
-      halt_ran trap (Ended status) e h k i = absurd (no_trap_ends status _ _ h.0)
-      halt_ran trap Spent e h k i = absurd (no_trap_spends _ _ h.0)
-      halt_ran trap ReadFault e h k i = absurd (no_trap_reads _ _ h.0)
+
+      halt_ran : (writes writes' : ℕ) (trap : Trap) (r : Stop) → tested_on p.word (slice_get code m.place) m.place here ≡ Err trap
+          → HaltIs written written' m.waiting writes writes' (Trapped (trap_number trap) m.place) r → Consumes left left' []
+          → MarkMoves m.reader.ended n.reader.ended ends ends' left left' []
+          → Ran p.word p m n left left' written written' ends ends' taken out turns 1 (Some r)
+      halt_ran writes writes' trap r e (as_meant q h l) k i =
+          subst (λ s. Ran p.word p m n left left' written written' ends ends' taken out turns 1 (Some s)) (sym q) (meant_ran trap e h k i)
+      halt_ran writes writes' trap r e (by_write lost q h l) k i =
+          subst (λ s. Ran p.word p m n left left' written written' ends ends' taken out turns 1 (Some s)) (sym q) (lost_ran lost h k i)
 
       fault_ran : (r : Stop) → takes_at (slice_get code m.place) ≡ true → FaultIs m.waiting written written' r → Consumes left left' []
           → MarkMoves m.reader.ended n.reader.ended ends ends' left left' []
@@ -235,34 +235,30 @@ module _ (p : Code) (code : List (List Move)) (made : All (IsMade p.word) p.tran
           takes = ap (λ q. takes_at (slice_get p.transfers q)) c.stands.place_is ∙ sym (takes_is m.place) ∙ e;
         }));
       }
-      fault_ran WriteFault e h k i = record {
-        bytes = []; printed = []; rest = h.0; made = 0; within = omega arith; all = tt; consumes = k; prints = h.1; mark = i;
-        run = λ more f. let c = before [] more i f in
-          ap output (goes_at p c.state turns ((taken ++ []) ++ more) c.leads) ∙ c.printed_is ∙ sym (append-nil out);
-      }
+      fault_ran WriteFault e h k i = lost_ran h.0 h.1 k i
       fault_ran Spent e h k i = absurd h
       fault_ran (Ended status) e h k i = absurd h
       fault_ran (Trapped kind place) e h k i = absurd h
 
-      step_ran : (r : Option Stop) → StepIs p.word (slice_get code m.place) m n left left' written written' ends ends' r
+      step_ran : (writes writes' : ℕ) (r : Option Stop) → StepIs p.word (slice_get code m.place) m n left left' written written' ends ends' writes writes' r
           → Ran p.word p m n left left' written written' ends ends' taken out turns 1 r
-      step_ran r (by_turn t) = turn_ran t.given t.takes r t.answers
-      step_ran r (by_trap t) =
+      step_ran writes writes' r (by_turn t) = turn_ran t.given t.takes r t.answers
+      step_ran writes writes' r (by_trap t) =
           subst (λ x. Ran p.word p m n left left' written written' ends ends' taken out turns 1 x) (sym t.result_is)
-          (halt_ran t.trap t.stop t.traps t.halts t.consumes t.mark)
-      step_ran r (by_fault t) =
+          (halt_ran writes writes' t.trap t.stop t.traps t.halts t.consumes t.mark)
+      step_ran writes writes' r (by_fault t) =
           subst (λ x. Ran p.word p m n left left' written written' ends ends' taken out turns 1 x) (sym t.result_is)
           (fault_ran t.stop t.takes t.fault t.consumes t.mark)
 
 -- a step is one turn of the run, for each program whose code this is
-pub all_ran : (w : ℕ) (code : List (List Move)) (m n : Running) (left left' written written' : Option (List ℕ)) (ends ends' : ℕ) (r : Option Stop)
+pub all_ran : (w : ℕ) (code : List (List Move)) (m n : Running) (left left' written written' : Option (List ℕ)) (ends ends' writes writes' : ℕ) (r : Option Stop)
     → length m.held.registers ≡ 64 → length m.held.flags ≡ 8
-    → StepIs w (slice_get code m.place) m n left left' written written' ends ends' r
+    → StepIs w (slice_get code m.place) m n left left' written written' ends ends' writes writes' r
     → AllRan w code m n left left' written written' ends ends' 1 r
-all_ran w code m n left left' written written' ends ends' r many eight h p is taken out turns runs =
+all_ran w code m n left left' written written' ends ends' writes writes' r many eight h p is taken out turns runs =
     subst
-    (λ x. All (IsMade x) p.transfers → StepIs x (slice_get code m.place) m n left left' written written' ends ends' r → HasRun x p m taken out turns
+    (λ x. All (IsMade x) p.transfers → StepIs x (slice_get code m.place) m n left left' written written' ends ends' writes writes' r → HasRun x p m taken out turns
       → Ran x p m n left left' written written' ends ends' taken out turns 1 r)
     is.word
-    (λ a s k. step_ran p code a is.code_is m many eight n left left' written written' ends ends' taken out turns k r s)
+    (λ a s k. step_ran p code a is.code_is m many eight n left left' written written' ends ends' taken out turns k writes writes' r s)
     is.made h runs

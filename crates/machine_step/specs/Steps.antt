@@ -38,29 +38,28 @@ abbrev pub EndsAs : Turned → ℕ → Type 0
 EndsAs (Ends out status) n = status ≡ n
 EndsAs _ n = ⊥
 
+-- some last bytes are lost
+abbrev pub PrintsPart : Option (List ℕ) → List ℕ → Option (List ℕ) → List ℕ → Type 0
+PrintsPart old waited new out = (lost : List ℕ) × Prints old waited new lost out
+
 -- what is answered for a turn that doesn't trap, and what is printed by then; a machine that stops has nothing left to write, but where
 -- the write fails, which leaves out some last bytes
 abbrev pub Answers : Turned → List ℕ → Running → Option (List ℕ) → Option (List ℕ) → Option Stop → Type 0
 Answers t waited n written written' None = GoesTo t n × Prints written waited written' n.waiting (out_of t) × (n.stopped ≡ None)
 Answers t waited n written written' (Some (Ended status)) = EndsAs t status × Prints written waited written' [] (out_of t) × (n.stopped ≡ Some (Ended status))
-Answers t waited n written written' (Some WriteFault) = ((lost : List ℕ) × Prints written waited written' lost (out_of t)) × (n.stopped ≡ Some WriteFault)
+Answers t waited n written written' (Some WriteFault) = PrintsPart written waited written' (out_of t) × (n.stopped ≡ Some WriteFault)
 Answers t waited n written written' (Some _) = ⊥
 
 -- the machine stops as it was to stop, with all written, or by the write
-abbrev pub HaltIs : Option (List ℕ) → Option (List ℕ) → List ℕ → Stop → Stop → Type 0
-HaltIs written written' waited stop WriteFault = (lost : List ℕ) × Prints written waited written' lost []
-HaltIs written written' waited stop result = (result ≡ stop) × Prints written waited written' [] []
+pub data HaltIs (written written' : Option (List ℕ)) (waited : List ℕ) (writes writes' : ℕ) (stop result : Stop) : Type 0 where
+  as_meant : result ≡ stop → Prints written waited written' [] [] → writes ≤ writes' → HaltIs written written' waited writes writes' stop result
+  by_write : (lost : List ℕ) → result ≡ WriteFault → Prints written waited written' lost [] → Rose writes writes' → HaltIs written written' waited writes writes' stop result
 
 -- all but what waits and why the machine stopped stays
 pub record KeepsHeld (m n : Running) : Type 0 where
   pub held : n.held ≡ m.held
   pub place : n.place ≡ m.place
   pub reader : n.reader ≡ m.reader
-
--- the count of faults of the sink has risen where the write failed
-abbrev pub WriteCause : ℕ → ℕ → Stop → Stop → Type 0
-WriteCause writes writes' stop WriteFault = Rose writes writes'
-WriteCause writes writes' stop result = writes ≤ writes'
 
 abbrev pub CausesOf : ℕ → ℕ → ℕ → ℕ → Option Stop → Type 0
 CausesOf reads reads' writes writes' (Some ReadFault) = Rose reads reads'
@@ -102,11 +101,11 @@ pub record ByTurn (w : ℕ) (line : Option (List Move)) (m n : Running) (left le
   pub answers : Answers (turn_on w line given m.place (state_of m.held)) m.waiting n written written' result
 
 -- a trap, by which no byte is taken
-pub record ByTrap (w : ℕ) (line : Option (List Move)) (m n : Running) (left left' written written' : Option (List ℕ)) (ends ends' : ℕ) (result : Option Stop) : Type 0 where
+pub record ByTrap (w : ℕ) (line : Option (List Move)) (m n : Running) (left left' written written' : Option (List ℕ)) (ends ends' writes writes' : ℕ) (result : Option Stop) : Type 0 where
   pub trap : Trap
   pub traps : tested_on w line m.place (state_of m.held) ≡ Err trap
   pub stop : Stop
-  pub halts : HaltIs written written' m.waiting (Trapped (trap_number trap) m.place) stop
+  pub halts : HaltIs written written' m.waiting writes writes' (Trapped (trap_number trap) m.place) stop
   pub result_is : result ≡ Some stop
   pub stopped : n.stopped ≡ Some stop
   pub consumes : Consumes left left' []
@@ -115,7 +114,7 @@ pub record ByTrap (w : ℕ) (line : Option (List Move)) (m n : Running) (left le
 -- a fault of the read, before which all was written, or of the write before it
 abbrev pub FaultIs : List ℕ → Option (List ℕ) → Option (List ℕ) → Stop → Type 0
 FaultIs waited written written' ReadFault = Prints written waited written' [] []
-FaultIs waited written written' WriteFault = (lost : List ℕ) × Prints written waited written' lost []
+FaultIs waited written written' WriteFault = PrintsPart written waited written' []
 FaultIs waited written written' _ = ⊥
 
 pub record ByFault (line : Option (List Move)) (m n : Running) (left left' written written' : Option (List ℕ)) (ends ends' : ℕ) (result : Option Stop) : Type 0 where
@@ -128,10 +127,18 @@ pub record ByFault (line : Option (List Move)) (m n : Running) (left left' writt
   pub mark : MarkMoves m.reader.ended n.reader.ended ends ends' left left' []
 
 -- what a step of a machine that hasn't stopped comes to
-pub data StepIs (w : ℕ) (line : Option (List Move)) (m n : Running) (left left' written written' : Option (List ℕ)) (ends ends' : ℕ) (result : Option Stop) : Type 0 where
-  by_turn : ByTurn w line m n left left' written written' ends ends' result → StepIs w line m n left left' written written' ends ends' result
-  by_trap : ByTrap w line m n left left' written written' ends ends' result → StepIs w line m n left left' written written' ends ends' result
-  by_fault : ByFault line m n left left' written written' ends ends' result → StepIs w line m n left left' written written' ends ends' result
+pub data StepIs (w : ℕ) (line : Option (List Move)) (m n : Running) (left left' written written' : Option (List ℕ)) (ends ends' writes writes' : ℕ) (result : Option Stop) : Type 0 where
+  by_turn : ByTurn w line m n left left' written written' ends ends' result → StepIs w line m n left left' written written' ends ends' writes writes' result
+  by_trap : ByTrap w line m n left left' written written' ends ends' writes writes' result → StepIs w line m n left left' written written' ends ends' writes writes' result
+  by_fault : ByFault line m n left left' written written' ends ends' result → StepIs w line m n left left' written written' ends ends' writes writes' result
+
+-- an instruction that takes no byte is made, or traps
+pub data AloneIs (w : ℕ) (line : Option (List Move)) (m n : Running) (written written' : Option (List ℕ)) (writes writes' : ℕ) (result : Option Stop) : Type 0 where
+  made_alone : Answers (turn_on w line None m.place (state_of m.held)) m.waiting n written written' result → n.reader ≡ m.reader
+      → AloneIs w line m n written written' writes writes' result
+  trapped_alone : (trap : Trap) (stop : Stop) → tested_on w line m.place (state_of m.held) ≡ Err trap
+      → HaltIs written written' m.waiting writes writes' (Trapped (trap_number trap) m.place) stop → result ≡ Some stop → n.stopped ≡ Some stop → n.reader ≡ m.reader
+      → AloneIs w line m n written written' writes writes' result
 
 -- what was held, the place and why the machine stopped stay
 pub record KeepsRunning (m n : Running) : Type 0 where

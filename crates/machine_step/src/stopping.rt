@@ -2,7 +2,7 @@
 
 ghost use Rattle.std.specs.Prelude.{Some, ◌≡◌};
 ghost use Rattle.machine_run.specs.Machine.{trap_number};
-ghost use Rattle.machine_step.specs.Steps.{HaltIs, IsReady, KeepsHeld, WriteCause};
+ghost use Rattle.machine_step.specs.Steps.{HaltIs, IsReady, KeepsHeld};
 
 use crate::running::{Running, Stop};
 use rtl_value::Trap;
@@ -34,11 +34,10 @@ pub fn note(m: &mut Running, stop: Stop) -> Stop
 /// Writes what waits and stops: as it was to stop, or by the fault of the write.
 pub fn halt<W: Word, K: Sink>(m: &mut Running, stop: Stop, sink: &mut K) -> Stop
     requires ready { IsReady W.BITS m.old }
-    ensures halts { HaltIs (K.written sink.old) (K.written sink.new) m.old.waiting stop result }
+    ensures halts { HaltIs (K.written sink.old) (K.written sink.new) m.old.waiting (K.faults sink.old) (K.faults sink.new) stop result }
     ensures stopped { m.new.stopped ≡ Some result }
     ensures kept { KeepsHeld m.old m.new }
     ensures ready { IsReady W.BITS m.new }
-    ensures cause { WriteCause (K.faults sink.old) (K.faults sink.new) stop result }
 {
     match m.waiting.flush(sink) {
         Ok(()) => note(m, stop),
@@ -49,11 +48,10 @@ pub fn halt<W: Word, K: Sink>(m: &mut Running, stop: Stop, sink: &mut K) -> Stop
 /// Stops by a trap of the instruction that is next.
 pub fn trapped<W: Word, K: Sink>(m: &mut Running, trap: Trap, sink: &mut K) -> Stop
     requires ready { IsReady W.BITS m.old }
-    ensures halts { HaltIs (K.written sink.old) (K.written sink.new) m.old.waiting (Stop.Trapped (trap_number trap) m.old.place) result }
+    ensures halts { HaltIs (K.written sink.old) (K.written sink.new) m.old.waiting (K.faults sink.old) (K.faults sink.new) (Stop.Trapped (trap_number trap) m.old.place) result }
     ensures stopped { m.new.stopped ≡ Some result }
     ensures kept { KeepsHeld m.old m.new }
     ensures ready { IsReady W.BITS m.new }
-    ensures cause { WriteCause (K.faults sink.old) (K.faults sink.new) (Stop.Trapped (trap_number trap) m.old.place) result }
 {
     let stop = Stop::Trapped {
         kind: number(trap),

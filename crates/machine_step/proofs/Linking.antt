@@ -27,7 +27,7 @@ use Rattle.machine_step.specs.Runs.{linked, linked_goal, linked_move, linked_mov
 both_values : (w : ℕ) (o : BinOp) (a b c d : Result ℕ Trap) → a ≡ c → b ≡ d → binary_value w o a b ≡ binary_value w o c d
 both_values w o a b c d e h = ap (λ r. binary_value w o r b) e ∙ ap (λ r. binary_value w o c r) h
 
-input_linked : (p : Code) (t : Tree) → is_input (linked p t) ≡ is_input t
+pub input_linked : (p : Code) (t : Tree) → is_input (linked p t) ≡ is_input t
 input_linked p (Read c) = refl
 input_linked p (Number n) = refl
 input_linked p (Symbol n) = refl

@@ -17,7 +17,7 @@ use Rattle.machine_effect.specs.Turns.{Turned, On, at_place, after_made, halted_
 use Rattle.machine_step.specs.declared.running.Running.{Running}
 use Rattle.machine_step.specs.declared.running.Stop.{Stop}
 use Rattle.machine_step.specs.declared.running.Stop.TheVariants.{Ended, Trapped, Spent, ReadFault, WriteFault}
-use Rattle.machine_step.specs.Steps.{out_of, PrintsPart, Answers, HaltIs, as_meant, by_write, HasCauses, CausesOf, MarkMoves, Takes, tested_on, ByTurn, ByTrap, StepIs, by_turn, by_trap, AloneIs, made_alone, trapped_alone}
+use Rattle.machine_step.specs.Steps.{out_of, PrintsPart, Answers, HaltIs, as_meant, by_write, HasCauses, CausesOf, MarkMoves, Takes, tested_on, ByTurn, ByTrap, StepIs, by_turn, by_trap, by_fault, AloneIs, made_alone, trapped_alone}
 use Rattle.machine_step.proofs.Bytes.{prints_then, marks_none, consumes_nothing}
 
 pub rose_later : (a b c : ℕ) → a ≤ b → Rose b c → Rose a c
@@ -172,3 +172,46 @@ pub trapped_causes : (written written' : Option (List ℕ)) (waited : List ℕ) 
     → before ≤ writes → writes ≤ writes' → HaltIs written written' waited writes writes' (Trapped kind place) r → HasCauses 0 0 before writes' (Some r)
 trapped_causes written written' waited before writes writes' kind place r l k h =
     halted_causes written written' waited before writes writes' (Trapped kind place) r tt l k h
+
+-- what a call's faults have risen by, beside an earlier call of the same machine
+pub causes_later : (reads reads' reads'' writes writes' writes'' : ℕ) (r : Option Stop) → reads ≤ reads' → writes ≤ writes'
+    → HasCauses reads' reads'' writes' writes'' r → HasCauses reads reads'' writes writes'' r
+causes_later reads reads' reads'' writes writes' writes'' (Some ReadFault) l k h = record {
+  reads_later = omega (arith, l, h.reads_later); writes_later = omega (arith, k, h.writes_later); cause = rose_later reads reads' reads'' l h.cause;
+}
+causes_later reads reads' reads'' writes writes' writes'' (Some WriteFault) l k h = record {
+  reads_later = omega (arith, l, h.reads_later); writes_later = omega (arith, k, h.writes_later); cause = rose_later writes writes' writes'' k h.cause;
+}
+causes_later reads reads' reads'' writes writes' writes'' (Some Spent) l k h = record {
+  reads_later = omega (arith, l, h.reads_later); writes_later = omega (arith, k, h.writes_later); cause = tt;
+}
+causes_later reads reads' reads'' writes writes' writes'' (Some (Ended status)) l k h = record {
+  reads_later = omega (arith, l, h.reads_later); writes_later = omega (arith, k, h.writes_later); cause = tt;
+}
+causes_later reads reads' reads'' writes writes' writes'' (Some (Trapped kind place)) l k h = record {
+  reads_later = omega (arith, l, h.reads_later); writes_later = omega (arith, k, h.writes_later); cause = tt;
+}
+causes_later reads reads' reads'' writes writes' writes'' None l k h = record {
+  reads_later = omega (arith, l, h.reads_later); writes_later = omega (arith, k, h.writes_later); cause = tt;
+}
+
+-- a call without a source, beside one that read of it
+pub causes_with : (reads reads' writes writes' writes'' : ℕ) (r : Option Stop) → reads ≤ reads' → writes ≤ writes' → HasCauses 0 0 writes' writes'' r
+    → HasCauses reads reads' writes writes'' r
+causes_with reads reads' writes writes' writes'' (Some ReadFault) l k h =
+    let none : ⊥ = (let c : Rose 0 0 = h.cause in omega (arith, c)) in absurd none
+causes_with reads reads' writes writes' writes'' (Some WriteFault) l k h = record {
+  reads_later = l; writes_later = omega (arith, k, h.writes_later); cause = rose_later writes writes' writes'' k h.cause;
+}
+causes_with reads reads' writes writes' writes'' (Some Spent) l k h = record { reads_later = l; writes_later = omega (arith, k, h.writes_later); cause = tt }
+causes_with reads reads' writes writes' writes'' (Some (Ended status)) l k h = record { reads_later = l; writes_later = omega (arith, k, h.writes_later); cause = tt }
+causes_with reads reads' writes writes' writes'' (Some (Trapped kind place)) l k h = record { reads_later = l; writes_later = omega (arith, k, h.writes_later); cause = tt }
+causes_with reads reads' writes writes' writes'' None l k h = record { reads_later = l; writes_later = omega (arith, k, h.writes_later); cause = tt }
+
+-- the step tells why the machine stopped
+pub step_noted : (w : ℕ) (line : Option (List Move)) (m n : Running) (left left' written written' : Option (List ℕ)) (ends ends' writes writes' : ℕ) (r : Option Stop)
+    → StepIs w line m n left left' written written' ends ends' writes writes' r → n.stopped ≡ r
+step_noted w line m n left left' written written' ends ends' writes writes' r (by_turn t) =
+    answers_noted (turn_on w line t.given m.place (state_of m.held)) m.waiting n written written' r t.answers
+step_noted w line m n left left' written written' ends ends' writes writes' r (by_trap t) = t.stopped ∙ sym t.result_is
+step_noted w line m n left left' written written' ends ends' writes writes' r (by_fault t) = t.stopped ∙ sym t.result_is

@@ -114,3 +114,29 @@ lost_ran w code m waiting stopped left written written' ends a p is taken out tu
       run = λ more f.
           let c = h' more f in ap output (goes_at p c.state turns ((taken ++ []) ++ more) c.leads) ∙ c.printed_is ∙ sym (append-nil out);
     }
+
+abbrev pub IsStop : Stop → Type 0
+IsStop Spent = ⊥
+IsStop _ = Unit {0}
+
+-- a call that stops has made as many turns as it may, or fewer
+pub ran_within : (w : ℕ) (p : Code) (m n : Running) (left left' written written' : Option (List ℕ)) (ends ends' : ℕ) (taken out : List ℕ) (turns k steps : ℕ) (s : Stop)
+    → IsStop s → k ≤ steps → Ran w p m n left left' written written' ends ends' taken out turns k (Some s)
+    → Ran w p m n left left' written written' ends ends' taken out turns steps (Some s)
+ran_within w p m n left left' written written' ends ends' taken out turns k steps Spent i l f = absurd i
+ran_within w p m n left left' written written' ends ends' taken out turns k steps (Ended status) i l f = record {
+  bytes = f.bytes; printed = f.printed; rest = f.rest; made = f.made; within = omega (arith, f.within, l); all = tt; consumes = f.consumes; prints = f.prints;
+  mark = f.mark; run = f.run;
+}
+ran_within w p m n left left' written written' ends ends' taken out turns k steps (Trapped kind place) i l f = record {
+  bytes = f.bytes; printed = f.printed; rest = f.rest; made = f.made; within = omega (arith, f.within, l); all = tt; consumes = f.consumes; prints = f.prints;
+  mark = f.mark; run = f.run;
+}
+ran_within w p m n left left' written written' ends ends' taken out turns k steps ReadFault i l f = record {
+  bytes = f.bytes; printed = f.printed; rest = f.rest; made = f.made; within = omega (arith, f.within, l); all = tt; consumes = f.consumes; prints = f.prints;
+  mark = f.mark; run = f.run;
+}
+ran_within w p m n left left' written written' ends ends' taken out turns k steps WriteFault i l f = record {
+  bytes = f.bytes; printed = f.printed; rest = f.rest; made = f.made; within = omega (arith, f.within, l); all = tt; consumes = f.consumes; prints = f.prints;
+  mark = f.mark; run = f.run;
+}

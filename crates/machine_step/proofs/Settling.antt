@@ -1,7 +1,7 @@
 -- What a step comes to, from what its parts come to.
-use Rattle.std.proofs.Common.{◌≡◌, ℕ, suc, ◌+◌, ◌≤◌, Bool, true, false, List, [], ◌++◌, length, min, ◌^◌, ◌-◌, Option, Some, None, Result, Ok, Err, refl, sym, ap, ◌∙◌, subst, append-nil, arith, add-one}
-use Rattle.std.specs.Io.KnownBytes.{Appends, Consumes}
-use Rattle.vp_io.specs.Contents.{AppendsPart}
+use Rattle.std.proofs.Common.{◌≡◌, ℕ, suc, ◌+◌, ◌<◌, ◌≤◌, Bool, true, false, List, [], ◌++◌, length, slice_index_or, Option, Some, None, Result, Ok, Err, refl, sym, ap, ◌∙◌, subst, append-nil, arith, add-one}
+use Rattle.std.proofs.lemmas.Option.{slice_get-get_or}
+use Rattle.std.specs.Prelude.{slice_get}
 use Rattle.vp_io.specs.Counts.{Rose}
 use Rattle.rtl_tree.specs.Moves.{Move}
 use Rattle.rtl_value.specs.declared.state.Trap.{Trap}
@@ -17,7 +17,8 @@ use Rattle.machine_effect.specs.Turns.{Turned, On, at_place, after_made, halted_
 use Rattle.machine_step.specs.declared.running.Running.{Running}
 use Rattle.machine_step.specs.declared.running.Stop.{Stop}
 use Rattle.machine_step.specs.declared.running.Stop.TheVariants.{Ended, Trapped, Spent, ReadFault, WriteFault}
-use Rattle.machine_step.specs.Steps.{out_of, PrintsPart, Answers, HaltIs, as_meant, by_write, HasCauses, CausesOf, MarkMoves, Takes, tested_on, ByTurn, ByTrap, StepIs, by_turn, by_trap, by_fault, AloneIs, made_alone, trapped_alone}
+use Rattle.machine_step.specs.Steps.{out_of, PrintsPart, Answers, HaltIs, as_meant, by_write, HasCauses, CausesOf, MarkMoves, Takes, tested_on, ByTurn, ByTrap, FaultIs, StepIs, by_turn, by_trap, by_fault, AloneIs, made_alone, trapped_alone}
+use Rattle.machine_step.proofs.Joined.{IsStop}
 use Rattle.machine_step.proofs.Bytes.{prints_then, marks_none, consumes_nothing}
 
 pub rose_later : (a b c : ℕ) → a ≤ b → Rose b c → Rose a c
@@ -215,3 +216,77 @@ step_noted w line m n left left' written written' ends ends' writes writes' r (b
     answers_noted (turn_on w line t.given m.place (state_of m.held)) m.waiting n written written' r t.answers
 step_noted w line m n left left' written written' ends ends' writes writes' r (by_trap t) = t.stopped ∙ sym t.result_is
 step_noted w line m n left left' written written' ends ends' writes writes' r (by_fault t) = t.stopped ∙ sym t.result_is
+
+-- a byte was taken, and the turn was made
+pub taken_step : (w : ℕ) (ms : List Move) (m b n : Running) (left left' written middle written' : Option (List ℕ)) (ends ends' writes writes' : ℕ) (given : Option ℕ)
+    (r : Option Stop) → takes ms ≡ true → m.held.next ≡ m.place + 1 → b.held ≡ m.held → n.reader ≡ b.reader
+    → Takes true left left' m.reader.ended b.reader.ended ends ends' given → Prints written m.waiting middle b.waiting []
+    → Answers (turned_by (made_by w given ms (state_of b.held)) (state_of b.held)) b.waiting n middle written' r
+    → StepIs w (Some ms) m n left left' written written' ends ends' writes writes' r
+taken_step w ms m b n left left' written middle written' ends ends' writes writes' given r e next held reader t p a = by_turn (record {
+  given = given;
+  takes =
+    subst (λ x. Takes x left left' m.reader.ended n.reader.ended ends ends' given) (sym e)
+    (subst (λ x. Takes true left left' m.reader.ended x.ended ends ends' given) (sym reader) t);
+  answers =
+    answers_after (turn_on w (Some ms) given m.place (state_of m.held)) m.waiting b.waiting n written middle written' r p
+    (subst (λ x. Answers x b.waiting n middle written' r) (turn_is w ms given m.place m.held b.held next held) a);
+})
+
+-- the next place is known before the instruction is made
+next_step : (w : ℕ) (ms : List Move) (m n : Running) (k : ℕ) (left left' written written' : Option (List ℕ)) (ends ends' writes writes' : ℕ) (r : Option Stop)
+    → StepIs w (Some ms) (record m { held = record m.held { next = k } }) n left left' written written' ends ends' writes writes' r
+    → StepIs w (Some ms) m n left left' written written' ends ends' writes writes' r
+next_step w ms m n k left left' written written' ends ends' writes writes' r (by_turn t) =
+    by_turn (record { given = t.given; takes = t.takes; answers = t.answers })
+next_step w ms m n k left left' written written' ends ends' writes writes' r (by_trap t) =
+    by_trap (record {
+      trap = t.trap; traps = t.traps; stop = t.stop; halts = t.halts; result_is = t.result_is; stopped = t.stopped; consumes = t.consumes; mark = t.mark;
+    })
+next_step w ms m n k left left' written written' ends ends' writes writes' r (by_fault t) =
+    by_fault (record {
+      takes = t.takes; stop = t.stop; fault = t.fault; result_is = t.result_is; stopped = t.stopped; consumes = t.consumes; mark = t.mark;
+    })
+
+-- the instruction is that of the code
+pub line_step : (w : ℕ) (code : List (List Move)) (ms line : List Move) (m n : Running) (k : ℕ) (left left' written written' : Option (List ℕ))
+    (ends ends' writes writes' : ℕ) (r : Option Stop) → m.place < length code → ms ≡ line → line ≡ slice_index_or code m.place line
+    → StepIs w (Some ms) (record m { held = record m.held { next = k } }) n left left' written written' ends ends' writes writes' r
+    → StepIs w (slice_get code m.place) m n left left' written written' ends ends' writes writes' r
+line_step w code ms line m n k left left' written written' ends ends' writes writes' r l e f h =
+    subst (λ o. StepIs w o m n left left' written written' ends ends' writes writes' r)
+    (ap (λ x. Some x) (e ∙ f) ∙ sym (slice_get-get_or code m.place line l))
+    (next_step w ms m n k left left' written written' ends ends' writes writes' r h)
+
+abbrev stop_of : Stop → Option Stop → Stop
+stop_of d (Some s) = s
+stop_of d None = d
+
+answers_stop : (t : Turned) (waited : List ℕ) (n : Running) (written written' : Option (List ℕ)) (s : Stop) → Answers t waited n written written' (Some s) → IsStop s
+answers_stop t waited n written written' Spent a = absurd a
+answers_stop t waited n written written' (Ended status) a = tt
+answers_stop t waited n written written' (Trapped kind place) a = tt
+answers_stop t waited n written written' ReadFault a = tt
+answers_stop t waited n written written' WriteFault a = tt
+
+halts_stop : (written written' : Option (List ℕ)) (waited : List ℕ) (writes writes' kind place : ℕ) (s : Stop)
+    → HaltIs written written' waited writes writes' (Trapped kind place) s → IsStop s
+halts_stop written written' waited writes writes' kind place s (as_meant e h l) = subst IsStop (sym e) tt
+halts_stop written written' waited writes writes' kind place s (by_write lost e h l) = subst IsStop (sym e) tt
+
+fault_stop : (waited : List ℕ) (written written' : Option (List ℕ)) (s : Stop) → FaultIs waited written written' s → IsStop s
+fault_stop waited written written' Spent h = absurd h
+fault_stop waited written written' (Ended status) h = tt
+fault_stop waited written written' (Trapped kind place) h = tt
+fault_stop waited written written' ReadFault h = tt
+fault_stop waited written written' WriteFault h = tt
+
+-- a step is never spent
+pub step_stops : (w : ℕ) (line : Option (List Move)) (m n : Running) (left left' written written' : Option (List ℕ)) (ends ends' writes writes' : ℕ) (s : Stop)
+    → StepIs w line m n left left' written written' ends ends' writes writes' (Some s) → IsStop s
+step_stops w line m n left left' written written' ends ends' writes writes' s (by_turn t) =
+    answers_stop (turn_on w line t.given m.place (state_of m.held)) m.waiting n written written' s t.answers
+step_stops w line m n left left' written written' ends ends' writes writes' s (by_trap t) =
+    subst IsStop (ap (stop_of s) (sym t.result_is)) (halts_stop written written' m.waiting writes writes' (trap_number t.trap) m.place t.stop t.halts)
+step_stops w line m n left left' written written' ends ends' writes writes' s (by_fault t) =
+    subst IsStop (ap (stop_of s) (sym t.result_is)) (fault_stop m.waiting written written' t.stop t.fault)

@@ -1,5 +1,5 @@
 -- A transfer traps where one of its sides or addresses does, whichever byte it is given.
-use Rattle.std.proofs.Common.{◌≡◌, ℕ, List, [], ◌∷◌, Option, Some, None, Result, Ok, Err, refl, ap, ◌∙◌}
+use Rattle.std.proofs.Common.{◌≡◌, ℕ, List, [], ◌∷◌, Option, Some, None, Result, Ok, Err, refl, sym, ap, ◌∙◌}
 use Rattle.rtl_tree.specs.Moves.{Move}
 use Rattle.rtl_value.specs.declared.state.Trap.{Trap}
 use Rattle.rtl_value.specs.declared.state.State.{State}
@@ -52,3 +52,7 @@ pub turn_traps : (w : ℕ) (o : Option (List Move)) (given : Option ℕ) (place 
     → turn_on w o given place s ≡ TrapsBy c
 turn_traps w None given place s c e = ap place_trap e
 turn_traps w (Some ms) given place s c e = ap (λ r. turned_by r (at_place place s)) (made_traps w given (at_place place s) c ms e)
+
+-- what was tested doesn't trap
+pub never_traps : (w : ℕ) (given : Option ℕ) (s : State) (c : Trap) (ms : List Move) → tested_by w ms s ≡ Ok tt → made_by w given ms s ≡ Err c → ⊥
+never_traps w given s c ms e h = let clash : (let x : Tested = Ok tt in x) ≡ Err c = sym e ∙ tested_traps w given s c ms h in cc

@@ -6,7 +6,6 @@ ghost use Rattle.machine_step.specs.Runs.{AllRan, StaysStopped, StopIsNoted};
 
 use crate::making::go;
 use crate::running::{Running, Stop};
-use crate::stopping::note;
 use rtl_tree::Effects;
 use rtl_word::Word;
 use vp_io::{Sink, Source};
@@ -58,7 +57,10 @@ fn run_on<W: Word, S: Source, K: Sink>(
     }
     match m.waiting.flush(sink) {
         Ok(()) => Stop::Spent,
-        Err(_) => note(m, Stop::WriteFault),
+        Err(_) => {
+            m.stopped = Some(Stop::WriteFault);
+            Stop::WriteFault
+        }
     }
 }
 

@@ -1,14 +1,11 @@
-use Rattle.std.proofs.Common.{rules, All, None, Ok, OnErr, OnOk, Some, false, length, slice_get, true, ◌+◌, ◌<◌, ◌≡◌, ℕ, ◌-◌, ◌*◌, ◌≤◌, ◌/◌, ◌%◌, Bool, nat_eq, nat_lt, List, [], ◌∷◌, ◌++◌, slice_index_or, slice_set, bit_and, bit_or, Fits, w8, w32, w64, Bor, MutBor}
-use Rattle.vp_io.specs.Counts.{HasCause}
-use Rattle.rtl_effect.specs.Effects.{takes}
-use Rattle.machine_devices.specs.Devices.{Prints}
-use Rattle.machine_run.specs.Machine.{byte_out}
-use Rattle.machine_turn.specs.Held.{IsMadeMove, state_of}
-use Rattle.machine_turn.specs.Turn.{IsOutcome, made_by, made_of, tested_by}
-use Rattle.machine_effect.specs.Turns.{halted_by, turned_by}
-use Rattle.machine_step.specs.Steps.{AloneIs, Answers, HasCauses, IsCode, IsReady, KeepsRunning, PrintsPart, StepIs, TakeIs, fault_of}
+use Rattle.std.proofs.Common.{arith, ◌∙◌, ◌<◌, ◌+◌, length}
+use Rattle.machine_step.proofs.Settling.{line_step}
 use Rattle.machine_step.proofs.making.go.Goals as goal
 
--- src/making.rt:194:1
 pub returns-clause-step : goal.returns-clause-step
-returns-clause-step g c = ?
+returns-clause-step g c =
+    let within : c.args.m.now.place < length c.args.code.now = grind (arith, c.if-code-place.false) in
+    line_step g.W.Word.BITS c.args.code.now c.as_slice.result.now c.index-code-place.result c.args.m.now c.make_line.new.m (c.args.m.now.place + 1)
+    (g.S.Source.left c.args.source.now) (g.S.Source.left c.make_line.new.source) (g.K.Sink.written c.args.sink.now) (g.K.Sink.written c.make_line.new.sink)
+    (g.S.Source.ends c.args.source.now) (g.S.Source.ends c.make_line.new.source) (g.K.Sink.faults c.args.sink.now) (g.K.Sink.faults c.make_line.new.sink)
+    c.make_line.result within (c.as_slice.ensures ∙ c.line.view_is) c.index-code-place.is c.make_line.ensures.step

@@ -1,14 +1,13 @@
-use Rattle.std.proofs.Common.{rules, All, None, Ok, OnErr, OnOk, Some, false, length, slice_get, true, ◌+◌, ◌<◌, ◌≡◌, ℕ, ◌-◌, ◌*◌, ◌≤◌, ◌/◌, ◌%◌, Bool, nat_eq, nat_lt, List, [], ◌∷◌, ◌++◌, slice_index_or, slice_set, bit_and, bit_or, Fits, w8, w32, w64, Bor, MutBor}
-use Rattle.vp_io.specs.Counts.{HasCause}
-use Rattle.rtl_effect.specs.Effects.{takes}
-use Rattle.machine_devices.specs.Devices.{Prints}
-use Rattle.machine_run.specs.Machine.{byte_out}
-use Rattle.machine_turn.specs.Held.{IsMadeMove, state_of}
-use Rattle.machine_turn.specs.Turn.{IsOutcome, made_by, made_of, tested_by}
-use Rattle.machine_effect.specs.Turns.{halted_by, turned_by}
-use Rattle.machine_step.specs.Steps.{AloneIs, Answers, HasCauses, IsCode, IsReady, KeepsRunning, PrintsPart, StepIs, TakeIs, fault_of}
+use Rattle.std.proofs.Common.{None, refl, sym, ◌∙◌}
+use Rattle.machine_turn.specs.Held.{state_of}
+use Rattle.machine_step.specs.Steps.{trapped_alone}
+use Rattle.machine_step.proofs.Traps.{tested_traps}
+use Rattle.machine_step.proofs.Settling.{test_is}
 use Rattle.machine_step.proofs.making.make_alone.Goals as goal
 
--- src/making.rt:156:1
 pub returns-in-Err-clause-step : goal.returns-in-Err-clause-step
-returns-in-Err-clause-step g c = ?
+returns-in-Err-clause-step g c =
+    trapped_alone c.in-Err.trap c.trapped.result
+    (sym (test_is g.W.Word.BITS c.args.moves.now c.args.m.now.place c.args.m.now.held c.requires.next)
+     ∙ tested_traps g.W.Word.BITS None (state_of c.args.m.now.held) c.in-Err.trap c.args.moves.now c.in-Err.ensures.made.0)
+    c.trapped.ensures.halts refl c.trapped.ensures.stopped c.trapped.ensures.kept.reader

@@ -1,14 +1,10 @@
-use Rattle.std.proofs.Common.{rules, All, None, Ok, OnErr, OnOk, Some, false, length, slice_get, true, ◌+◌, ◌<◌, ◌≡◌, ℕ, ◌-◌, ◌*◌, ◌≤◌, ◌/◌, ◌%◌, Bool, nat_eq, nat_lt, List, [], ◌∷◌, ◌++◌, slice_index_or, slice_set, bit_and, bit_or, Fits, w8, w32, w64, Bor, MutBor}
-use Rattle.vp_io.specs.Counts.{HasCause}
-use Rattle.rtl_effect.specs.Effects.{takes}
-use Rattle.machine_devices.specs.Devices.{Prints}
-use Rattle.machine_run.specs.Machine.{byte_out}
-use Rattle.machine_turn.specs.Held.{IsMadeMove, state_of}
-use Rattle.machine_turn.specs.Turn.{IsOutcome, made_by, made_of, tested_by}
-use Rattle.machine_effect.specs.Turns.{halted_by, turned_by}
-use Rattle.machine_step.specs.Steps.{AloneIs, Answers, HasCauses, IsCode, IsReady, KeepsRunning, PrintsPart, StepIs, TakeIs, fault_of}
+use Rattle.machine_step.proofs.Settling.{taken_step}
 use Rattle.machine_step.proofs.making.make_taken.Goals as goal
 
--- src/making.rt:111:1
 pub returns-in-Ok-clause-step : goal.returns-in-Ok-clause-step
-returns-in-Ok-clause-step g c = ?
+returns-in-Ok-clause-step g c =
+    taken_step g.W.Word.BITS c.args.moves.now c.args.m.now c.take.new.m c.make_given.new.m (g.S.Source.left c.args.source.now) (g.S.Source.left c.take.new.source)
+    (g.K.Sink.written c.args.sink.now) (g.K.Sink.written c.take.new.sink) (g.K.Sink.written c.make_given.new.sink) (g.S.Source.ends c.args.source.now)
+    (g.S.Source.ends c.take.new.source) (g.K.Sink.faults c.args.sink.now) (g.K.Sink.faults c.make_given.new.sink) c.in-Ok.given c.make_given.result
+    c.requires.takes c.requires.next c.in-Ok.ensures.kept.held c.make_given.ensures.reader c.in-Ok.ensures.takes.0 c.in-Ok.ensures.takes.1
+    c.make_given.ensures.answers

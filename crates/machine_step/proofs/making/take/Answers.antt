@@ -1,14 +1,9 @@
-use Rattle.std.proofs.Common.{rules, All, None, Ok, OnErr, OnOk, Some, false, length, slice_get, true, ◌+◌, ◌<◌, ◌≡◌, ℕ, ◌-◌, ◌*◌, ◌≤◌, ◌/◌, ◌%◌, Bool, nat_eq, nat_lt, List, [], ◌∷◌, ◌++◌, slice_index_or, slice_set, bit_and, bit_or, Fits, w8, w32, w64, Bor, MutBor}
-use Rattle.vp_io.specs.Counts.{HasCause}
-use Rattle.rtl_effect.specs.Effects.{takes}
-use Rattle.machine_devices.specs.Devices.{Prints}
-use Rattle.machine_run.specs.Machine.{byte_out}
-use Rattle.machine_turn.specs.Held.{IsMadeMove, state_of}
-use Rattle.machine_turn.specs.Turn.{IsOutcome, made_by, made_of, tested_by}
-use Rattle.machine_effect.specs.Turns.{halted_by, turned_by}
-use Rattle.machine_step.specs.Steps.{AloneIs, Answers, HasCauses, IsCode, IsReady, KeepsRunning, PrintsPart, StepIs, TakeIs, fault_of}
+use Rattle.machine_step.proofs.Bytes.{consumes_nothing, marks_none, prints_part_waiting}
 use Rattle.machine_step.proofs.making.take.Goals as goal
 
--- src/making.rt:80:19
 pub returns-in-Err-clause-takes : goal.returns-in-Err-clause-takes
-returns-in-Err-clause-takes g c = ?
+returns-in-Err-clause-takes g c = (
+  (prints_part_waiting (g.K.Sink.written c.args.sink.now) (g.K.Sink.written c.flush.new.sink) c.args.m.now.waiting c.in-Err.ensures.part),
+  (consumes_nothing (g.S.Source.left c.args.source.now)),
+  (marks_none c.args.m.now.reader.ended (g.S.Source.ends c.args.source.now) (g.S.Source.left c.args.source.now)),
+)

@@ -11,6 +11,7 @@ use machine_devices::{Buffer, Reader};
 use machine_step::{Running, Stop, run, step};
 use machine_turn::Held;
 use md_check::Checked;
+use md_said::said_is_sound;
 use rtl_tree::{Effects, NoMemory};
 use rtl_word::Word;
 use std::alloc::Global;
@@ -51,6 +52,7 @@ impl<W: Word> Machine<W> {
         requires loadable { IsLoadable W.BITS m.now p.now }
         ensures { IfOk result (λ machine. IsLoaded W.BITS (code_of m.now p.now) machine) }
     {
+        said_is_sound();
         let memory = memory_of(alloc, m.layout(), p)?;
         let code = code_in::<W>(alloc, m, p)?;
         let held = Held {

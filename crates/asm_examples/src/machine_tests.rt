@@ -6,11 +6,11 @@ use machine_step::Stop;
 use md_check::Checked;
 use md_verdict::{Accepted, accept};
 use rtl_machine::Machine;
-use rtl_tree::{Lab, Names, NoMemory};
+use rtl_tree::{Lab, NameList, Names};
 use rtl_value::LabelAt;
 use rtl_word::W16;
 use shipped::Shipped::Pdp11;
-use std::alloc::{Global, HostRuntime};
+use std::alloc::Global;
 use vp_io::{MemSink, MemSource};
 
 /// A program for the pdp11: its lines, the places of the labels `L0`, `L1` and so on, and the bytes of its one object, `_x`.
@@ -35,7 +35,10 @@ fn pdp11(alloc: Global) -> Option<Checked<W16>> {
 }
 
 fn program(alloc: Global, m: &Checked<W16>, text: &Text) -> Option<Program> {
-    let mut names = Names::new(alloc);
+    let mut names = Names {
+        objects: NameList::new(alloc),
+        functions: NameList::new(alloc),
+    };
     let mut lines = Vec::new(alloc);
     for line in text.lines {
         let instance = read_line::<W16>(alloc, m, line.as_bytes(), &mut names).ok()?;
@@ -69,7 +72,7 @@ fn room(alloc: Global) -> Option<Vec<u8>> {
 }
 
 /// Runs a program on an input, with calls of the sink that fail.
-fn shown(
+fn run_text(
     alloc: Global,
     text: &Text,
     input: &[u8],
@@ -83,9 +86,9 @@ fn shown(
     let failing = Vec::from_slice(alloc, failing).ok()?;
     let mut sink = MemSink::new(room(alloc)?, 4096, failing);
     let stop = machine.run(steps, &mut source, &mut sink);
-    let again = machine.run(1, &mut source, &mut sink);
     let printed = Vec::from_slice(alloc, sink.bytes()).ok()?;
-    if stop != Stop::Spent && again != stop {
+    let again = machine.run(0, &mut source, &mut sink);
+    if again != stop || sink.bytes() != printed.as_slice() {
         return None;
     }
     Some(Shown { stop, printed })
@@ -161,9 +164,9 @@ const CALLS: Text = Text {
 #[test]
 fn programs_run(rt: HostRuntime) {
     let alloc = rt.alloc();
-    assert!(rt; comes_to(shown(alloc, &ECHO, b"A", 10, &[]), Stop::Ended(255), b"A\xff"));
-    assert!(rt; comes_to(shown(alloc, &SIGNED, b"", 10, &[]), Stop::Ended(200), b"\xc8"));
-    assert!(rt; comes_to(shown(alloc, &CALLS, b"", 10, &[]), Stop::Ended(65), b"A"));
+    assert!(rt; comes_to(run_text(alloc, &ECHO, b"A", 10, &[]), Stop::Ended(255), b"A\xff"));
+    assert!(rt; comes_to(run_text(alloc, &SIGNED, b"", 10, &[]), Stop::Ended(200), b"\xc8"));
+    assert!(rt; comes_to(run_text(alloc, &CALLS, b"", 10, &[]), Stop::Ended(65), b"A"));
 }
 
 #[test]
@@ -172,16 +175,16 @@ fn programs_trap(rt: HostRuntime) {
     let align = Stop::Trapped { kind: 4, place: 1 };
     let flag = Stop::Trapped { kind: 5, place: 0 };
     let place = Stop::Trapped { kind: 6, place: 0 };
-    assert!(rt; comes_to(shown(alloc, &MISALIGNED, b"", 10, &[]), align, b""));
-    assert!(rt; comes_to(shown(alloc, &UNTESTED, b"", 10, &[]), flag, b""));
-    assert!(rt; comes_to(shown(alloc, &NOTHING, b"", 10, &[]), place, b""));
+    assert!(rt; comes_to(run_text(alloc, &MISALIGNED, b"", 10, &[]), align, b""));
+    assert!(rt; comes_to(run_text(alloc, &UNTESTED, b"", 10, &[]), flag, b""));
+    assert!(rt; comes_to(run_text(alloc, &NOTHING, b"", 10, &[]), place, b""));
 }
 
 // The echo prints its second byte with the fourth instruction; a write that fails takes the place of any other stop.
 #[test]
 fn runs_stop_early(rt: HostRuntime) {
     let alloc = rt.alloc();
-    assert!(rt; comes_to(shown(alloc, &ENDLESS, b"", 1000, &[]), Stop::Spent, b""));
-    assert!(rt; comes_to(shown(alloc, &ECHO, b"AB", 3, &[]), Stop::Spent, b"A"));
-    assert!(rt; comes_to(shown(alloc, &ECHO, b"A", 10, &[1]), Stop::WriteFault, b"A"));
+    assert!(rt; comes_to(run_text(alloc, &ENDLESS, b"", 1000, &[]), Stop::Spent, b""));
+    assert!(rt; comes_to(run_text(alloc, &ECHO, b"AB", 3, &[]), Stop::Spent, b"A"));
+    assert!(rt; comes_to(run_text(alloc, &ECHO, b"A", 10, &[1]), Stop::WriteFault, b"A"));
 }

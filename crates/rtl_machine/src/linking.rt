@@ -14,16 +14,12 @@ use std::alloc::Global;
 fn place_of(labels: &[LabelAt], label: Lab) -> Option<u32>
     ensures { result ≡ place_of_label labels.now label }
 {
-    match labels {
-        [] => None,
-        [first, rest @ ..] => {
-            if is_same_label(first.label, label) {
-                Some(first.at)
-            } else {
-                place_of(rest, label)
-            }
+    for entry in labels {
+        if is_same_label(entry.label, label) {
+            return Some(entry.at);
         }
     }
+    None
 }
 
 /// The value with a number in place of a name; 0 stands for a name that is nowhere.

@@ -285,20 +285,52 @@ module _ (w : ℕ) (s : State) (v : View) (h : Shows w s v) where
     put_made given g t a i (compared n x y _ l e) = with_flag n t (Holds x y) (Some (record { left = x; right = y })) l e refl
     put_made given g t a i (lost n _ l e) = with_flag n t Gone None l e refl
     put_made given g t a i (next place _ e) = record {
-      cells = b.cells; flags = b.flags; goes = e; prints = b.prints; ends = b.ends; stores = b.stores; fits_memory = b.fits_memory;
-      many = b.many; eight = b.eight; temps = b.temps;
+      cells = b.cells;
+      flags = b.flags;
+      goes = e;
+      prints = b.prints;
+      ends = b.ends;
+      stores = b.stores;
+      fits_memory = b.fits_memory;
+      many = b.many;
+      eight = b.eight;
+      temps = b.temps;
     }
     put_made given g t a i (printed x _ e) = record {
-      cells = b.cells; flags = b.flags; goes = b.goes; prints = rw e refl; ends = b.ends; stores = b.stores; fits_memory = b.fits_memory;
-      many = b.many; eight = b.eight; temps = b.temps;
+      cells = b.cells;
+      flags = b.flags;
+      goes = b.goes;
+      prints = rw e refl;
+      ends = b.ends;
+      stores = b.stores;
+      fits_memory = b.fits_memory;
+      many = b.many;
+      eight = b.eight;
+      temps = b.temps;
     }
     put_made given g t a i (ended x _ e) = record {
-      cells = b.cells; flags = b.flags; goes = b.goes; prints = b.prints; ends = rw e refl; stores = b.stores; fits_memory = b.fits_memory;
-      many = b.many; eight = b.eight; temps = b.temps;
+      cells = b.cells;
+      flags = b.flags;
+      goes = b.goes;
+      prints = b.prints;
+      ends = rw e refl;
+      stores = b.stores;
+      fits_memory = b.fits_memory;
+      many = b.many;
+      eight = b.eight;
+      temps = b.temps;
     }
     put_made given g t a i (bytes d' a' _ at x e f l) = record {
-      cells = b.cells; flags = b.flags; goes = b.goes; prints = b.prints; ends = b.ends; stores = rw (e, f) refl; fits_memory = l;
-      many = b.many; eight = b.eight; temps = b.temps;
+      cells = b.cells;
+      flags = b.flags;
+      goes = b.goes;
+      prints = b.prints;
+      ends = b.ends;
+      stores = rw (e, f) refl;
+      fits_memory = l;
+      many = b.many;
+      eight = b.eight;
+      temps = b.temps;
     }
 
   abbrev MadeMoves : Type 0 → List Move → Type 0

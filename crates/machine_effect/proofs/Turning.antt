@@ -104,7 +104,7 @@ module _ (w : ℕ) (s : State) (m : MachineState) (h : Shows w (at_place m.place
   line_turn (Some ms) a many eight i n e =
       made_turn ms (made_by w given ms now) (input_left (takes ms) given more m.view.input i e)
       (comes w now here h (Unit {0}) given ms many eight (a ms refl)
-       (λ t. n ∙ ap (λ x. Some x) (given_word w (takes ms) given more e t)))
+      (λ t. n ∙ ap (λ x. Some x) (given_word w (takes ms) given more e t)))
 
 abbrev some_of : Option (List Move) → List Move → List Move
 some_of (Some ms) d = ms
@@ -122,9 +122,9 @@ pub turn_is_turn : TurnIsTurn
 turn_is_turn p a place s many eight given more m st e =
     subst
     (λ k. Shows p.word (at_place k s) (view_at k m.view) → m.view.input ≡ bytes_taken (takes_at (slice_get p.transfers k)) given ++ more
-      → m.view.cells Input ≡ Some (next_in p.word (bytes_taken (takes_at (slice_get p.transfers k)) given ++ more))
-      → EndMeans (takes_at (slice_get p.transfers k)) given more
-      → TurnIs p.word more m (turn p m) (turn_on p.word (slice_get p.transfers k) given k s))
+    → m.view.cells Input ≡ Some (next_in p.word (bytes_taken (takes_at (slice_get p.transfers k)) given ++ more))
+    → EndMeans (takes_at (slice_get p.transfers k)) given more
+    → TurnIs p.word more m (turn p m) (turn_on p.word (slice_get p.transfers k) given k s))
     st.place_is
     (λ h i n en. line_turn p.word s m h given more (slice_get p.transfers m.place) (made_at p.word p.transfers a m.place) many eight i n en)
     st.shows st.input_is st.next e

@@ -43,12 +43,12 @@ ran_then w code p m b n left left' left'' written written' written'' ends ends' 
       all = made_more r f.made g.made k j f.all g.all;
       consumes = consumes_then left left' left'' f.bytes g.bytes f.consumes g.consumes;
       prints =
-        prints_then written written' written'' m.waiting b.waiting g.rest f.printed g.printed
-        (subst (λ x. Prints written m.waiting written' x f.printed) f.run.0 f.prints) g.prints;
+          prints_then written written' written'' m.waiting b.waiting g.rest f.printed g.printed
+          (subst (λ x. Prints written m.waiting written' x f.printed) f.run.0 f.prints) g.prints;
       mark = marks_then m.reader.ended b.reader.ended n.reader.ended ends ends' ends'' left left' left'' f.bytes g.bytes f.mark g.mark;
       run =
-        run_moved w p n g.rest r _ _ _ _ _ _ (append_assoc taken f.bytes g.bytes) (append_assoc out f.printed g.printed)
-        (let sum : turns + f.made + g.made ≡ turns + (f.made + g.made) = omega arith in sum) g.run;
+          run_moved w p n g.rest r _ _ _ _ _ _ (append_assoc taken f.bytes g.bytes) (append_assoc out f.printed g.printed)
+          (let sum : turns + f.made + g.made ≡ turns + (f.made + g.made) = omega arith in sum) g.run;
     }
 
 no_turn : (w : ℕ) (p : Code) (n : Running) (taken out : List ℕ) (turns : ℕ) → HasRun w p n taken out turns → HasRun w p n (taken ++ []) (out ++ []) (turns + 0)
@@ -125,18 +125,50 @@ pub ran_within : (w : ℕ) (p : Code) (m n : Running) (left left' written writte
     → Ran w p m n left left' written written' ends ends' taken out turns steps (Some s)
 ran_within w p m n left left' written written' ends ends' taken out turns k steps Spent i l f = absurd i
 ran_within w p m n left left' written written' ends ends' taken out turns k steps (Ended status) i l f = record {
-  bytes = f.bytes; printed = f.printed; rest = f.rest; made = f.made; within = omega (arith, f.within, l); all = tt; consumes = f.consumes; prints = f.prints;
-  mark = f.mark; run = f.run;
+  bytes = f.bytes;
+  printed = f.printed;
+  rest = f.rest;
+  made = f.made;
+  within = omega (arith, f.within, l);
+  all = tt;
+  consumes = f.consumes;
+  prints = f.prints;
+  mark = f.mark;
+  run = f.run;
 }
 ran_within w p m n left left' written written' ends ends' taken out turns k steps (Trapped kind place) i l f = record {
-  bytes = f.bytes; printed = f.printed; rest = f.rest; made = f.made; within = omega (arith, f.within, l); all = tt; consumes = f.consumes; prints = f.prints;
-  mark = f.mark; run = f.run;
+  bytes = f.bytes;
+  printed = f.printed;
+  rest = f.rest;
+  made = f.made;
+  within = omega (arith, f.within, l);
+  all = tt;
+  consumes = f.consumes;
+  prints = f.prints;
+  mark = f.mark;
+  run = f.run;
 }
 ran_within w p m n left left' written written' ends ends' taken out turns k steps ReadFault i l f = record {
-  bytes = f.bytes; printed = f.printed; rest = f.rest; made = f.made; within = omega (arith, f.within, l); all = tt; consumes = f.consumes; prints = f.prints;
-  mark = f.mark; run = f.run;
+  bytes = f.bytes;
+  printed = f.printed;
+  rest = f.rest;
+  made = f.made;
+  within = omega (arith, f.within, l);
+  all = tt;
+  consumes = f.consumes;
+  prints = f.prints;
+  mark = f.mark;
+  run = f.run;
 }
 ran_within w p m n left left' written written' ends ends' taken out turns k steps WriteFault i l f = record {
-  bytes = f.bytes; printed = f.printed; rest = f.rest; made = f.made; within = omega (arith, f.within, l); all = tt; consumes = f.consumes; prints = f.prints;
-  mark = f.mark; run = f.run;
+  bytes = f.bytes;
+  printed = f.printed;
+  rest = f.rest;
+  made = f.made;
+  within = omega (arith, f.within, l);
+  all = tt;
+  consumes = f.consumes;
+  prints = f.prints;
+  mark = f.mark;
+  run = f.run;
 }

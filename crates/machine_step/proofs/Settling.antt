@@ -30,13 +30,27 @@ rose_then a b c h l = omega (arith, l, h)
 pub after_stored : (h k : Held) (o : Outcome) → k.memory.items ≡ memory_with o.stored h.memory.items → k.registers ≡ h.registers → k.flags ≡ h.flags
     → k.next ≡ h.next → after_made (made_of h o) (state_of h) ≡ state_of k
 after_stored h k o em er ef en = λ i. record {
-  registers = sym er i; temps = []; flags = sym ef i; next_place = sym en i; memory = sym em i; input = None; symbols = []; labels = [];
+  registers = sym er i;
+  temps = [];
+  flags = sym ef i;
+  next_place = sym en i;
+  memory = sym em i;
+  input = None;
+  symbols = [];
+  labels = [];
 }
 
 -- what is made depends on memory and the next place alone
 after_same : (d : Made) (h k : Held) → k.memory.items ≡ h.memory.items → k.next ≡ h.next → after_made d (state_of h) ≡ after_made d (state_of k)
 after_same d h k em en = λ i. record {
-  registers = d.registers; temps = []; flags = d.flags; next_place = sym en i; memory = memory_with d.outcome.stored (sym em i); input = None; symbols = []; labels = [];
+  registers = d.registers;
+  temps = [];
+  flags = d.flags;
+  next_place = sym en i;
+  memory = memory_with d.outcome.stored (sym em i);
+  input = None;
+  symbols = [];
+  labels = [];
 }
 
 halted_same : (status : Option ℕ) (d : Made) (h k : Held) → k.memory.items ≡ h.memory.items → k.next ≡ h.next
@@ -69,7 +83,7 @@ module _ (waited : List ℕ) (n : Running) (written written' : Option (List ℕ)
   settle_ends st status d s middle q writes writes' r e h (as_meant f k l) k' =
       subst (λ x. Answers (halted_by x d s) waited n written written' (Some r)) (sym e)
       (subst (λ x. Answers (halted_by (Some status) d s) waited n written written' (Some x)) (sym f)
-       (refl, (ends_as middle q [] _ h k), (k' ∙ ap (λ x. Some x) f)))
+      (refl, (ends_as middle q [] _ h k), (k' ∙ ap (λ x. Some x) f)))
   settle_ends st status d s middle q writes writes' r e h (by_write lost f k l) k' =
       subst (λ x. Answers (halted_by st d s) waited n written written' (Some x)) (sym f)
       ((lost, subst (λ o. Prints written waited written' lost o) (sym (out_is st d s)) (ends_as middle q lost _ h k)), (k' ∙ ap (λ x. Some x) f))
@@ -178,22 +192,34 @@ trapped_causes written written' waited before writes writes' kind place r l k h 
 pub causes_later : (reads reads' reads'' writes writes' writes'' : ℕ) (r : Option Stop) → reads ≤ reads' → writes ≤ writes'
     → HasCauses reads' reads'' writes' writes'' r → HasCauses reads reads'' writes writes'' r
 causes_later reads reads' reads'' writes writes' writes'' (Some ReadFault) l k h = record {
-  reads_later = omega (arith, l, h.reads_later); writes_later = omega (arith, k, h.writes_later); cause = rose_later reads reads' reads'' l h.cause;
+  reads_later = omega (arith, l, h.reads_later);
+  writes_later = omega (arith, k, h.writes_later);
+  cause = rose_later reads reads' reads'' l h.cause;
 }
 causes_later reads reads' reads'' writes writes' writes'' (Some WriteFault) l k h = record {
-  reads_later = omega (arith, l, h.reads_later); writes_later = omega (arith, k, h.writes_later); cause = rose_later writes writes' writes'' k h.cause;
+  reads_later = omega (arith, l, h.reads_later);
+  writes_later = omega (arith, k, h.writes_later);
+  cause = rose_later writes writes' writes'' k h.cause;
 }
 causes_later reads reads' reads'' writes writes' writes'' (Some Spent) l k h = record {
-  reads_later = omega (arith, l, h.reads_later); writes_later = omega (arith, k, h.writes_later); cause = tt;
+  reads_later = omega (arith, l, h.reads_later);
+  writes_later = omega (arith, k, h.writes_later);
+  cause = tt;
 }
 causes_later reads reads' reads'' writes writes' writes'' (Some (Ended status)) l k h = record {
-  reads_later = omega (arith, l, h.reads_later); writes_later = omega (arith, k, h.writes_later); cause = tt;
+  reads_later = omega (arith, l, h.reads_later);
+  writes_later = omega (arith, k, h.writes_later);
+  cause = tt;
 }
 causes_later reads reads' reads'' writes writes' writes'' (Some (Trapped kind place)) l k h = record {
-  reads_later = omega (arith, l, h.reads_later); writes_later = omega (arith, k, h.writes_later); cause = tt;
+  reads_later = omega (arith, l, h.reads_later);
+  writes_later = omega (arith, k, h.writes_later);
+  cause = tt;
 }
 causes_later reads reads' reads'' writes writes' writes'' None l k h = record {
-  reads_later = omega (arith, l, h.reads_later); writes_later = omega (arith, k, h.writes_later); cause = tt;
+  reads_later = omega (arith, l, h.reads_later);
+  writes_later = omega (arith, k, h.writes_later);
+  cause = tt;
 }
 
 -- a call without a source, beside one that read of it
@@ -202,7 +228,9 @@ pub causes_with : (reads reads' writes writes' writes'' : ℕ) (r : Option Stop)
 causes_with reads reads' writes writes' writes'' (Some ReadFault) l k h =
     let none : ⊥ = (let c : Rose 0 0 = h.cause in omega (arith, c)) in absurd none
 causes_with reads reads' writes writes' writes'' (Some WriteFault) l k h = record {
-  reads_later = l; writes_later = omega (arith, k, h.writes_later); cause = rose_later writes writes' writes'' k h.cause;
+  reads_later = l;
+  writes_later = omega (arith, k, h.writes_later);
+  cause = rose_later writes writes' writes'' k h.cause;
 }
 causes_with reads reads' writes writes' writes'' (Some Spent) l k h = record { reads_later = l; writes_later = omega (arith, k, h.writes_later); cause = tt }
 causes_with reads reads' writes writes' writes'' (Some (Ended status)) l k h = record { reads_later = l; writes_later = omega (arith, k, h.writes_later); cause = tt }
@@ -226,11 +254,11 @@ pub taken_step : (w : ℕ) (ms : List Move) (m b n : Running) (left left' writte
 taken_step w ms m b n left left' written middle written' ends ends' writes writes' given r e next held reader t p a = by_turn (record {
   given = given;
   takes =
-    subst (λ x. Takes x left left' m.reader.ended n.reader.ended ends ends' given) (sym e)
-    (subst (λ x. Takes true left left' m.reader.ended x.ended ends ends' given) (sym reader) t);
+      subst (λ x. Takes x left left' m.reader.ended n.reader.ended ends ends' given) (sym e)
+      (subst (λ x. Takes true left left' m.reader.ended x.ended ends ends' given) (sym reader) t);
   answers =
-    answers_after (turn_on w (Some ms) given m.place (state_of m.held)) m.waiting b.waiting n written middle written' r p
-    (subst (λ x. Answers x b.waiting n middle written' r) (turn_is w ms given m.place m.held b.held next held) a);
+      answers_after (turn_on w (Some ms) given m.place (state_of m.held)) m.waiting b.waiting n written middle written' r p
+      (subst (λ x. Answers x b.waiting n middle written' r) (turn_is w ms given m.place m.held b.held next held) a);
 })
 
 -- the next place is known before the instruction is made
@@ -241,11 +269,24 @@ next_step w ms m n k left left' written written' ends ends' writes writes' r (by
     by_turn (record { given = t.given; takes = t.takes; answers = t.answers })
 next_step w ms m n k left left' written written' ends ends' writes writes' r (by_trap t) =
     by_trap (record {
-      trap = t.trap; traps = t.traps; stop = t.stop; halts = t.halts; result_is = t.result_is; stopped = t.stopped; consumes = t.consumes; mark = t.mark;
+      trap = t.trap;
+      traps = t.traps;
+      stop = t.stop;
+      halts = t.halts;
+      result_is = t.result_is;
+      stopped = t.stopped;
+      consumes = t.consumes;
+      mark = t.mark;
     })
 next_step w ms m n k left left' written written' ends ends' writes writes' r (by_fault t) =
     by_fault (record {
-      takes = t.takes; stop = t.stop; fault = t.fault; result_is = t.result_is; stopped = t.stopped; consumes = t.consumes; mark = t.mark;
+      takes = t.takes;
+      stop = t.stop;
+      fault = t.fault;
+      result_is = t.result_is;
+      stopped = t.stopped;
+      consumes = t.consumes;
+      mark = t.mark;
     })
 
 -- the instruction is that of the code

@@ -86,8 +86,8 @@ module _ (p : Code) (code : List (List Move)) (made : All (IsMade p.word) p.tran
     turn_comes given more s h e =
         subst (λ t. TurnIs p.word more s (turn p s) t) (code_turn given)
         (turn_is_turn p made m.place (named p here) many eight given more s
-         (subst (λ b. Stands p.word m.place (named p here) (bytes_taken b given ++ more) s) (takes_is m.place) h)
-         (subst (λ b. EndMeans b given more) (takes_is m.place) e))
+        (subst (λ b. Stands p.word m.place (named p here) (bytes_taken b given ++ more) s) (takes_is m.place) h)
+        (subst (λ b. EndMeans b given more) (takes_is m.place) e))
 
     -- a trap doesn't depend on the byte that is next
     abbrev first_given : Bool → List ℕ → Option ℕ
@@ -117,9 +117,9 @@ module _ (p : Code) (code : List (List Move)) (made : All (IsMade p.word) p.tran
         let rest : List ℕ = first_rest (takes_at (slice_get code m.place)) more in
         subst (λ k. turn p s ≡ Fails s.printed (TrappedBy (trap_number trap) k)) h.place_is
         (subst (λ t. TurnIs p.word rest s (turn p s) (named_turned p t)) (turn_traps p.word (slice_get code m.place) given m.place here trap e)
-         (turn_comes given rest s
-          (subst (λ i. Stands p.word m.place (named p here) i s) (sym (first_is (takes_at (slice_get code m.place)) more)) h)
-          (first_means (takes_at (slice_get code m.place)) more)))
+        (turn_comes given rest s
+        (subst (λ i. Stands p.word m.place (named p here) i s) (sym (first_is (takes_at (slice_get code m.place)) more)) h)
+        (first_means (takes_at (slice_get code m.place)) more)))
 
     module _ (n : Running) (left left' written written' : Option (List ℕ)) (ends ends' : ℕ) (taken out : List ℕ) (turns : ℕ) (runs : HasRun p.word p m taken out turns) where
       -- the state of the definition before the step, on the bytes that it takes and those that may follow
@@ -146,8 +146,8 @@ module _ (p : Code) (code : List (List Move)) (made : All (IsMade p.word) p.tran
           state = h.0;
           leads = one_more p c.state h.0 turns ((taken ++ bytes) ++ more) h.1 c.leads;
           stands =
-            subst (λ k. Stands p.word k (named p (state_of n.held)) more h.0) g.1
-            (subst (λ x. Stands p.word place (named p x) more h.0) g.0 h.2);
+              subst (λ k. Stands p.word k (named p (state_of n.held)) more h.0) g.1
+              (subst (λ x. Stands p.word place (named p x) more h.0) g.0 h.2);
           printed_is = h.3 ∙ ap (λ x. x ++ o) c.printed_is;
         }
         goes_on (Ends o status) more c h g = absurd g
@@ -175,17 +175,38 @@ module _ (p : Code) (code : List (List Move)) (made : All (IsMade p.word) p.tran
         turn_ran : (r : Option Stop) → Answers turned m.waiting n written written' r
             → Ran p.word p m n left left' written written' ends ends' taken out turns 1 r
         turn_ran None a = record {
-          bytes = bytes; printed = out_of turned; rest = n.waiting; made = 1; within = omega arith; all = refl; consumes = takes.consumes; prints = a.1;
+          bytes = bytes;
+          printed = out_of turned;
+          rest = n.waiting;
+          made = 1;
+          within = omega arith;
+          all = refl;
+          consumes = takes.consumes;
+          prints = a.1;
           mark = takes.mark;
           run = (refl, (λ more f. let c = before bytes more takes.mark f in goes_on turned more c (turn_at more f c) a.0));
         }
         turn_ran (Some (Ended status)) a = record {
-          bytes = bytes; printed = out_of turned; rest = []; made = 1; within = omega arith; all = tt; consumes = takes.consumes; prints = a.1;
+          bytes = bytes;
+          printed = out_of turned;
+          rest = [];
+          made = 1;
+          within = omega arith;
+          all = tt;
+          consumes = takes.consumes;
+          prints = a.1;
           mark = takes.mark;
           run = (refl, (λ more f. let c = before bytes more takes.mark f in ends_run turned status more c (turn_at more f c) a.0));
         }
         turn_ran (Some WriteFault) a = record {
-          bytes = bytes; printed = out_of turned; rest = a.0.0; made = 1; within = omega arith; all = tt; consumes = takes.consumes; prints = a.0.1;
+          bytes = bytes;
+          printed = out_of turned;
+          rest = a.0.0;
+          made = 1;
+          within = omega arith;
+          all = tt;
+          consumes = takes.consumes;
+          prints = a.0.1;
           mark = takes.mark;
           run = λ more f. let c = before bytes more takes.mark f in prints_run turned more c (turn_at more f c);
         }
@@ -200,18 +221,37 @@ module _ (p : Code) (code : List (List Move)) (made : All (IsMade p.word) p.tran
           → Consumes left left' [] → MarkMoves m.reader.ended n.reader.ended ends ends' left left' []
           → Ran p.word p m n left left' written written' ends ends' taken out turns 1 (Some (Trapped (trap_number trap) m.place))
       meant_ran trap e h k i = record {
-        bytes = []; printed = []; rest = []; made = 1; within = omega arith; all = tt; consumes = k; prints = h; mark = i;
-        run = (refl, (λ more f. let c = before [] more i f in
-            fails_at p c.state turns ((taken ++ []) ++ more) c.state.printed (trap_number trap) m.place (trap_comes trap more c.state e c.stands) c.leads
-            ∙ ap (λ x. Failed x (TrappedBy (trap_number trap) m.place)) (c.printed_is ∙ sym (append-nil out))));
+        bytes = [];
+        printed = [];
+        rest = [];
+        made = 1;
+        within = omega arith;
+        all = tt;
+        consumes = k;
+        prints = h;
+        mark = i;
+        run = (
+          refl,
+          (λ more f. let c = before [] more i f in
+              fails_at p c.state turns ((taken ++ []) ++ more) c.state.printed (trap_number trap) m.place (trap_comes trap more c.state e c.stands) c.leads
+              ∙ ap (λ x. Failed x (TrappedBy (trap_number trap) m.place)) (c.printed_is ∙ sym (append-nil out))),
+        );
       }
 
       lost_ran : (lost : List ℕ) → Prints written m.waiting written' lost [] → Consumes left left' [] → MarkMoves m.reader.ended n.reader.ended ends ends' left left' []
           → Ran p.word p m n left left' written written' ends ends' taken out turns 1 (Some WriteFault)
       lost_ran lost h k i = record {
-        bytes = []; printed = []; rest = lost; made = 0; within = omega arith; all = tt; consumes = k; prints = h; mark = i;
+        bytes = [];
+        printed = [];
+        rest = lost;
+        made = 0;
+        within = omega arith;
+        all = tt;
+        consumes = k;
+        prints = h;
+        mark = i;
         run = λ more f. let c = before [] more i f in
-          ap output (goes_at p c.state turns ((taken ++ []) ++ more) c.leads) ∙ c.printed_is ∙ sym (append-nil out);
+            ap output (goes_at p c.state turns ((taken ++ []) ++ more) c.leads) ∙ c.printed_is ∙ sym (append-nil out);
       }
 
       halt_ran : (writes writes' : ℕ) (trap : Trap) (r : Stop) → tested_on p.word (slice_get code m.place) m.place here ≡ Err trap
@@ -227,13 +267,24 @@ module _ (p : Code) (code : List (List Move)) (made : All (IsMade p.word) p.tran
           → MarkMoves m.reader.ended n.reader.ended ends ends' left left' []
           → Ran p.word p m n left left' written written' ends ends' taken out turns 1 (Some r)
       fault_ran ReadFault e h k i = record {
-        bytes = []; printed = []; rest = []; made = 0; within = omega arith; all = tt; consumes = k; prints = h; mark = i;
-        run = (refl, (λ more f. let c = before [] more i f in record {
-          state = c.state;
-          leads = λ j. let same : turns + 0 + j ≡ turns + j = omega arith in ap (λ q. run_by (turn p) shown q (start p ((taken ++ []) ++ more))) same ∙ c.leads j;
-          printed_is = c.printed_is ∙ sym (append-nil out);
-          takes = ap (λ q. takes_at (slice_get p.transfers q)) c.stands.place_is ∙ sym (takes_is m.place) ∙ e;
-        }));
+        bytes = [];
+        printed = [];
+        rest = [];
+        made = 0;
+        within = omega arith;
+        all = tt;
+        consumes = k;
+        prints = h;
+        mark = i;
+        run = (
+          refl,
+          (λ more f. let c = before [] more i f in record {
+            state = c.state;
+            leads = λ j. let same : turns + 0 + j ≡ turns + j = omega arith in ap (λ q. run_by (turn p) shown q (start p ((taken ++ []) ++ more))) same ∙ c.leads j;
+            printed_is = c.printed_is ∙ sym (append-nil out);
+            takes = ap (λ q. takes_at (slice_get p.transfers q)) c.stands.place_is ∙ sym (takes_is m.place) ∙ e;
+          }),
+        );
       }
       fault_ran WriteFault e h k i = lost_ran h.0 h.1 k i
       fault_ran Spent e h k i = absurd h
@@ -258,7 +309,7 @@ pub all_ran : (w : ℕ) (code : List (List Move)) (m n : Running) (left left' wr
 all_ran w code m n left left' written written' ends ends' writes writes' r many eight h p is taken out turns runs =
     subst
     (λ x. All (IsMade x) p.transfers → StepIs x (slice_get code m.place) m n left left' written written' ends ends' writes writes' r → HasRun x p m taken out turns
-      → Ran x p m n left left' written written' ends ends' taken out turns 1 r)
+    → Ran x p m n left left' written written' ends ends' taken out turns 1 r)
     is.word
     (λ a s k. step_ran p code a is.code_is m many eight n left left' written written' ends ends' taken out turns k writes writes' r s)
     is.made h runs

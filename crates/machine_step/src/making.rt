@@ -20,11 +20,7 @@ use rtl_word::Word;
 use vp_io::{Failed, Sink, Source};
 
 /// Prints a byte, if there is one.
-fn print<K: Sink>(
-    waiting: &mut Buffer,
-    printed: Option<u8>,
-    sink: &mut K,
-) -> Result<(), Failed>
+fn print<K: Sink>(waiting: &mut Buffer, printed: Option<u8>, sink: &mut K) -> Result<(), Failed>
     requires room { length waiting.old < 4096 }
     ensures prints { OnOk result (Prints (K.written sink.old) waiting.old (K.written sink.new) waiting.new (byte_out printed)) }
     ensures part { OnErr result (PrintsPart (K.written sink.old) waiting.old (K.written sink.new) (byte_out printed)) }

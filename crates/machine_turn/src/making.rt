@@ -100,11 +100,7 @@ fn assign<W: Word>(a: Assigned, given: Option<u8>, s: &mut Held, outcome: Outcom
 }
 
 /// Makes a transfer but for what it stores, where `given` is the byte that it takes of the input, or none at the end.
-pub fn make<W: Word>(
-    moves: &[Assign],
-    given: Option<u8>,
-    s: &mut Held,
-) -> Result<Outcome, Trap>
+pub fn make<W: Word>(moves: &[Assign], given: Option<u8>, s: &mut Held) -> Result<Outcome, Trap>
     requires held { IsHeld W.BITS s.old }
     requires made { All (IsMadeMove W.BITS) moves.now }
     ensures made { ComesOut (made_by W.BITS given moves.now (state_of s.old)) s.old s.new result }

@@ -42,8 +42,8 @@ module _ (w : ℕ) (d : RawDescription) (p : Assembled) (sound : SaidIsSound) (c
   pub code_ready : IsAssembled p → IsCode w code
   code_ready a = record {
     made =
-      subst (λ c. All (λ ms. All (IsMadeMove w) ms) c) (sym code_is)
-      (code_made w (code_of d p) (pow_pos w) loadable.symbols (labels_below a) (code_of d p).transfers loadable.made);
+        subst (λ c. All (λ ms. All (IsMadeMove w) ms) c) (sym code_is)
+        (code_made w (code_of d p) (pow_pos w) loadable.symbols (labels_below a) (code_of d p).transfers loadable.made);
     short = subst (λ n. n < 2 ^ w) (sym (ap length lines ∙ map_length (linked_line d p) p.lines)) loadable.short;
   }
 
@@ -52,7 +52,7 @@ module _ (w : ℕ) (d : RawDescription) (p : Assembled) (sound : SaidIsSound) (c
       → m.running.stopped ≡ None → IsLoaded w (code_of d p) m
   loaded m e registers flags memory place waiting mark stopped = record {
     code = subst (λ c. IsCodeOf w (code_of d p) c) (sym e) loaded_code;
-    run = run_start w (code_of d p) m.running (word_is w d checked) registers flags memory loadable.data place;
+    run = run_start w (code_of d p) m.running (word_is w d checked) registers flags memory loadable.within_memory place;
     waiting = waiting;
     mark = mark;
     stopped = stopped;

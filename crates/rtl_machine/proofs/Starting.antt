@@ -109,9 +109,9 @@ module _ (p : Code) (h : Held) (registers : h.registers ≡ replicate 64 0) (fla
     state = start p more;
     leads = λ j. let same : 0 + j ≡ j = omega arith in ap (λ k. run_by (turn p) (λ s. s.printed) k (start p more)) same;
     stands =
-      subst (λ k. Stands p.word k (named p (state_of m.held)) more (start p more)) (sym f)
-      (subst (λ x. Stands p.word 0 (named p (state_of x)) more (start p more)) (sym e)
-       (record { place_is = refl; shows = shows_start more; input_is = refl; next = refl }));
+        subst (λ k. Stands p.word k (named p (state_of m.held)) more (start p more)) (sym f)
+        (subst (λ x. Stands p.word 0 (named p (state_of x)) more (start p more)) (sym e)
+        (record { place_is = refl; shows = shows_start more; input_is = refl; next = refl }));
     printed_is = refl;
   }
 

@@ -56,7 +56,7 @@ pub record IsLoadable (w : ℕ) (d : RawDescription) (p : Assembled) : Type 0 wh
   pub made : All (IsMade w) (code_of d p).transfers
   pub symbols : All (λ a. a < 2 ^ w) p.symbols
   pub short : length p.lines < 2 ^ w
-  pub data : d.base + length p.bytes ≤ d.memory
+  pub within_memory : d.base + length p.bytes ≤ d.memory
 
 -- what holds of every machine
 pub record IsMachine (w : ℕ) (m : Parts) : Type 0 where

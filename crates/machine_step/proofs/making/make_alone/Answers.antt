@@ -9,5 +9,5 @@ pub returns-in-Err-clause-step : goal.returns-in-Err-clause-step
 returns-in-Err-clause-step g c =
     trapped_alone c.in-Err.trap c.trapped.result
     (sym (test_is g.W.Word.BITS c.args.moves.now c.args.m.now.place c.args.m.now.held c.requires.next)
-     ∙ tested_traps g.W.Word.BITS None (state_of c.args.m.now.held) c.in-Err.trap c.args.moves.now c.in-Err.ensures.made.0)
+    ∙ tested_traps g.W.Word.BITS None (state_of c.args.m.now.held) c.in-Err.trap c.args.moves.now c.in-Err.ensures.made.0)
     c.trapped.ensures.halts refl c.trapped.ensures.stopped c.trapped.ensures.kept.reader

@@ -25,7 +25,7 @@ loop-turn-preserved g c = record {
       (g.S.Source.ends c.args.source.now) (g.S.Source.ends c.loop-turn.source) (g.S.Source.ends c.go.new.source) taken out turns c.loop-turn.turn 1 None is
       (c.loop-turn.invariant.ran p is taken out turns h)
       (all_ran g.W.Word.BITS c.args.code.now c.loop-turn.m c.go.new.m _ _ _ _ _ _ _ _ None c.loop-turn.invariant.ready.held.many
-       c.loop-turn.invariant.ready.held.eight c.in-None.ensures.step);
+      c.loop-turn.invariant.ready.held.eight c.in-None.ensures.step);
   reads = omega (arith, c.loop-turn.invariant.reads, c.go.ensures.causes.reads_later);
   writes = omega (arith, c.loop-turn.invariant.writes, c.go.ensures.causes.writes_later);
 }
@@ -37,11 +37,11 @@ returns-in-Some-clause-ran g c = λ p is taken out turns h.
     (g.K.Sink.written c.go.new.sink) (g.S.Source.ends c.args.source.now) (g.S.Source.ends c.go.new.source) taken out turns (c.loop-turn.turn + 1) c.args.steps c.in-Some.stop
     (step_stops g.W.Word.BITS _ c.loop-turn.m c.go.new.m _ _ _ _ _ _ _ _ c.in-Some.stop c.in-Some.ensures.step) within
     (ran_then g.W.Word.BITS c.args.code.now p c.args.m.now c.loop-turn.m c.go.new.m (g.S.Source.left c.args.source.now) (g.S.Source.left c.loop-turn.source)
-      (g.S.Source.left c.go.new.source) (g.K.Sink.written c.args.sink.now) (g.K.Sink.written c.loop-turn.sink) (g.K.Sink.written c.go.new.sink)
-      (g.S.Source.ends c.args.source.now) (g.S.Source.ends c.loop-turn.source) (g.S.Source.ends c.go.new.source) taken out turns c.loop-turn.turn 1 (Some c.in-Some.stop) is
-      (c.loop-turn.invariant.ran p is taken out turns h)
-      (all_ran g.W.Word.BITS c.args.code.now c.loop-turn.m c.go.new.m _ _ _ _ _ _ _ _ (Some c.in-Some.stop) c.loop-turn.invariant.ready.held.many
-       c.loop-turn.invariant.ready.held.eight c.in-Some.ensures.step))
+    (g.S.Source.left c.go.new.source) (g.K.Sink.written c.args.sink.now) (g.K.Sink.written c.loop-turn.sink) (g.K.Sink.written c.go.new.sink)
+    (g.S.Source.ends c.args.source.now) (g.S.Source.ends c.loop-turn.source) (g.S.Source.ends c.go.new.source) taken out turns c.loop-turn.turn 1 (Some c.in-Some.stop) is
+    (c.loop-turn.invariant.ran p is taken out turns h)
+    (all_ran g.W.Word.BITS c.args.code.now c.loop-turn.m c.go.new.m _ _ _ _ _ _ _ _ (Some c.in-Some.stop) c.loop-turn.invariant.ready.held.many
+    c.loop-turn.invariant.ready.held.eight c.in-Some.ensures.step))
 
 pub returns-in-Some-clause-causes : goal.returns-in-Some-clause-causes
 returns-in-Some-clause-causes g c =
@@ -53,27 +53,27 @@ returns-in-Ok-clause-ran g c = λ p is taken out turns h.
     let steps_are : c.loop-turn.turn + 0 ≡ c.args.steps = omega arith in
     subst
     (λ k. Ran g.W.Word.BITS p c.args.m.now (record c.loop-turn.m { waiting = c.flush.new.self; stopped = c.loop-turn.m.stopped }) (g.S.Source.left c.args.source.now)
-      (g.S.Source.left c.loop-turn.source) (g.K.Sink.written c.args.sink.now) (g.K.Sink.written c.flush.new.sink) (g.S.Source.ends c.args.source.now)
-      (g.S.Source.ends c.loop-turn.source) taken out turns k (Some Spent))
+    (g.S.Source.left c.loop-turn.source) (g.K.Sink.written c.args.sink.now) (g.K.Sink.written c.flush.new.sink) (g.S.Source.ends c.args.source.now)
+    (g.S.Source.ends c.loop-turn.source) taken out turns k (Some Spent))
     steps_are
     (ran_then g.W.Word.BITS c.args.code.now p c.args.m.now c.loop-turn.m (record c.loop-turn.m { waiting = c.flush.new.self; stopped = c.loop-turn.m.stopped })
-      (g.S.Source.left c.args.source.now) (g.S.Source.left c.loop-turn.source) (g.S.Source.left c.loop-turn.source) (g.K.Sink.written c.args.sink.now)
-      (g.K.Sink.written c.loop-turn.sink) (g.K.Sink.written c.flush.new.sink) (g.S.Source.ends c.args.source.now) (g.S.Source.ends c.loop-turn.source)
-      (g.S.Source.ends c.loop-turn.source) taken out turns c.loop-turn.turn 0 (Some Spent) is (c.loop-turn.invariant.ran p is taken out turns h)
-      (spent_ran g.W.Word.BITS c.args.code.now c.loop-turn.m c.flush.new.self (g.S.Source.left c.loop-turn.source) (g.K.Sink.written c.loop-turn.sink)
-       (g.K.Sink.written c.flush.new.sink) (g.S.Source.ends c.loop-turn.source) c.flush.ensures.none_waits c.in-Ok.ensures.all))
+    (g.S.Source.left c.args.source.now) (g.S.Source.left c.loop-turn.source) (g.S.Source.left c.loop-turn.source) (g.K.Sink.written c.args.sink.now)
+    (g.K.Sink.written c.loop-turn.sink) (g.K.Sink.written c.flush.new.sink) (g.S.Source.ends c.args.source.now) (g.S.Source.ends c.loop-turn.source)
+    (g.S.Source.ends c.loop-turn.source) taken out turns c.loop-turn.turn 0 (Some Spent) is (c.loop-turn.invariant.ran p is taken out turns h)
+    (spent_ran g.W.Word.BITS c.args.code.now c.loop-turn.m c.flush.new.self (g.S.Source.left c.loop-turn.source) (g.K.Sink.written c.loop-turn.sink)
+    (g.K.Sink.written c.flush.new.sink) (g.S.Source.ends c.loop-turn.source) c.flush.ensures.none_waits c.in-Ok.ensures.all))
 
 pub returns-in-Err-clause-ran : goal.returns-in-Err-clause-ran
 returns-in-Err-clause-ran g c = λ p is taken out turns h.
     let steps_are : c.loop-turn.turn + 0 ≡ c.args.steps = omega arith in
     subst
     (λ k. Ran g.W.Word.BITS p c.args.m.now (record c.loop-turn.m { waiting = c.flush.new.self; stopped = Some WriteFault }) (g.S.Source.left c.args.source.now)
-      (g.S.Source.left c.loop-turn.source) (g.K.Sink.written c.args.sink.now) (g.K.Sink.written c.flush.new.sink) (g.S.Source.ends c.args.source.now)
-      (g.S.Source.ends c.loop-turn.source) taken out turns k (Some WriteFault))
+    (g.S.Source.left c.loop-turn.source) (g.K.Sink.written c.args.sink.now) (g.K.Sink.written c.flush.new.sink) (g.S.Source.ends c.args.source.now)
+    (g.S.Source.ends c.loop-turn.source) taken out turns k (Some WriteFault))
     steps_are
     (ran_then g.W.Word.BITS c.args.code.now p c.args.m.now c.loop-turn.m (record c.loop-turn.m { waiting = c.flush.new.self; stopped = Some WriteFault })
-      (g.S.Source.left c.args.source.now) (g.S.Source.left c.loop-turn.source) (g.S.Source.left c.loop-turn.source) (g.K.Sink.written c.args.sink.now)
-      (g.K.Sink.written c.loop-turn.sink) (g.K.Sink.written c.flush.new.sink) (g.S.Source.ends c.args.source.now) (g.S.Source.ends c.loop-turn.source)
-      (g.S.Source.ends c.loop-turn.source) taken out turns c.loop-turn.turn 0 (Some WriteFault) is (c.loop-turn.invariant.ran p is taken out turns h)
-      (lost_ran g.W.Word.BITS c.args.code.now c.loop-turn.m c.flush.new.self (Some WriteFault) (g.S.Source.left c.loop-turn.source) (g.K.Sink.written c.loop-turn.sink)
-       (g.K.Sink.written c.flush.new.sink) (g.S.Source.ends c.loop-turn.source) c.in-Err.ensures.part))
+    (g.S.Source.left c.args.source.now) (g.S.Source.left c.loop-turn.source) (g.S.Source.left c.loop-turn.source) (g.K.Sink.written c.args.sink.now)
+    (g.K.Sink.written c.loop-turn.sink) (g.K.Sink.written c.flush.new.sink) (g.S.Source.ends c.args.source.now) (g.S.Source.ends c.loop-turn.source)
+    (g.S.Source.ends c.loop-turn.source) taken out turns c.loop-turn.turn 0 (Some WriteFault) is (c.loop-turn.invariant.ran p is taken out turns h)
+    (lost_ran g.W.Word.BITS c.args.code.now c.loop-turn.m c.flush.new.self (Some WriteFault) (g.S.Source.left c.loop-turn.source) (g.K.Sink.written c.loop-turn.sink)
+    (g.K.Sink.written c.flush.new.sink) (g.S.Source.ends c.loop-turn.source) c.in-Err.ensures.part))

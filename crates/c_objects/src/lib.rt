@@ -7,5 +7,5 @@ mod sizes;
 mod values;
 
 pub use at::{Functions, expression_at, value_at};
-pub use objects::{locals_of, place_of_declaration};
+pub use objects::locals_of;
 pub use sizes::{constant_of, extent_of, is_absent, is_full, length_of, sized, tell_unless};

@@ -13,10 +13,10 @@ use crate::values::initialised;
 use c_conversions::{Told, type_of_words};
 use c_names::NoMemory;
 use c_scopes::{State, is_forbidden_function, is_forbidden_object, with_item};
-use c_tree::syntax::{Declaration, Identifier, Item};
+use c_tree::syntax::{Declaration, Identifier, Initialiser, Item, Size};
 use c_tree::typed::{Local, LocalInit, Variable};
 use c_tree::{At, CType, Object};
-use c_typing::{Around, Meaning};
+use c_typing::{Around, Extent, Meaning, Typing};
 use rtl_word::Word;
 use sqlite_items::Items;
 use std::alloc::Global;
@@ -76,6 +76,35 @@ fn local(number: u32, init: Option<LocalInit>) -> Option<Local>
     })
 }
 
+/// The size of an object that is declared here.
+fn sized_here<W: Word>(
+    alloc: Global,
+    functions: &Functions<'_>,
+    told: &mut Told,
+    state: &State<'_>,
+    size: &Size,
+) -> Result<Typing, NoMemory>
+    ensures seen { IfOk result (λ t. t ≡ (spec.sized (within_of W.BITS functions.now) (here_of state.now) size.now).seen) }
+    ensures told { OnOk result (told.new.first ≡ notes told.old.first (spec.sized (within_of W.BITS functions.now) (here_of state.now) size.now).faults) }
+{
+    sized::<W>(alloc, functions, told, &state.names, size)
+}
+
+fn initialised_here<W: Word>(
+    alloc: Global,
+    functions: &Functions<'_>,
+    told: &mut Told,
+    state: &State<'_>,
+    of: CType,
+    extent: Extent,
+    init: &Initialiser,
+) -> Result<Option<LocalInit>, NoMemory>
+    ensures tree { IfOk result (λ t. t ≡ (spec.initialised (within_of W.BITS functions.now) (here_of state.now) of extent init.now).0) }
+    ensures told { OnOk result (told.new.first ≡ notes told.old.first (spec.initialised (within_of W.BITS functions.now) (here_of state.now) of extent init.now).1) }
+{
+    initialised::<W>(alloc, functions, told, &state.names, of, extent, init)
+}
+
 fn item<'a, W: Word>(
     alloc: Global,
     functions: &Functions<'_>,
@@ -93,18 +122,10 @@ fn item<'a, W: Word>(
     told.tell_if(twice, 12, i.name.at);
     let forbidden = is_forbidden_object(functions.included, i.name.bytes.as_slice());
     told.tell_if(forbidden, 14, i.name.at);
-    let seen = sized::<W>(alloc, functions, told, &state.names, &i.size)?;
+    let seen = sized_here::<W>(alloc, functions, told, &state, &i.size)?;
     let extent = extent_of::<W>(functions, told, &seen, &i.size, &i.initialiser, i.name.at)?;
     let (number, state) = with_object(alloc, state, &i.name, of, length_of(extent))?;
-    let init = initialised::<W>(
-        alloc,
-        functions,
-        told,
-        &state.names,
-        of,
-        extent,
-        &i.initialiser,
-    )?;
+    let init = initialised_here::<W>(alloc, functions, told, &state, of, extent, &i.initialiser)?;
     Ok((local(number, init), state))
 }
 
@@ -132,7 +153,7 @@ fn items<'a, W: Word>(
     Ok((trees, state))
 }
 
-/// The objects of a declaration in a block.
+/// The objects of a declaration in a block, and its place.
 pub fn locals_of<'a, W: Word>(
     alloc: Global,
     functions: &Functions<'_>,
@@ -140,14 +161,15 @@ pub fn locals_of<'a, W: Word>(
     told: &mut Told,
     state: State<'a>,
     d: &'a Declaration,
-) -> Result<(Option<Items<Local>>, State<'a>), NoMemory>
-    ensures tree { IfOk result (λ r. r.0 ≡ (spec.locals_of (within_of W.BITS functions.now) around (here_of state.entry) d.now).tree) }
-    ensures here { IfOk result (λ r. here_of r.1 ≡ (spec.locals_of (within_of W.BITS functions.now) around (here_of state.entry) d.now).here) }
+) -> Result<(At, Option<Items<Local>>, State<'a>), NoMemory>
+    ensures at { IfOk result (λ r. r.0 ≡ spec.place_of_declaration (within_of W.BITS functions.now) d.now) }
+    ensures tree { IfOk result (λ r. r.1 ≡ (spec.locals_of (within_of W.BITS functions.now) around (here_of state.entry) d.now).tree) }
+    ensures here { IfOk result (λ r. here_of r.2 ≡ (spec.locals_of (within_of W.BITS functions.now) around (here_of state.entry) d.now).here) }
     ensures told { OnOk result (told.new.first ≡ notes told.old.first (spec.locals_of (within_of W.BITS functions.now) around (here_of state.entry) d.now).faults) }
 {
     match d {
-        Declaration::Objects(_, words, list) => {
-            items::<W>(
+        Declaration::Objects(at, words, list) => {
+            let (trees, state) = items::<W>(
                 alloc,
                 functions,
                 around,
@@ -155,7 +177,8 @@ pub fn locals_of<'a, W: Word>(
                 state,
                 type_of_words(*words),
                 list.as_slice(),
-            )
+            )?;
+            Ok((*at, trees, state))
         }
         Declaration::Function(at, gives, name, parameters) => {
             let forbidden = is_forbidden_function(
@@ -167,16 +190,7 @@ pub fn locals_of<'a, W: Word>(
             );
             told.tell_if(forbidden, 14, *at);
             told.tell(15, *at);
-            Ok((None, state))
+            Ok((*at, None, state))
         }
-    }
-}
-
-pub fn place_of_declaration(d: &Declaration) -> At
-    ensures { result ≡ spec.place_of_declaration d.now }
-{
-    match d {
-        Declaration::Objects(at, ..) => *at,
-        Declaration::Function(at, ..) => *at,
     }
 }

@@ -9,7 +9,7 @@ ghost use Rattle.c_scopes.specs.Here.{here_of};
 ghost use Rattle.c_objects.specs.Within.{within_of};
 
 use c_conversions::Told;
-use c_objects::{Functions, expression_at, locals_of, place_of_declaration, value_at};
+use c_objects::{Functions, expression_at, locals_of, value_at};
 use c_names::NoMemory;
 use c_scopes::State;
 use c_tree::syntax::{Expr, Start};
@@ -60,8 +60,8 @@ fn begun<'a, W: Word>(
             Ok((begin_value(a.tree), state))
         }
         Start::Declared(d) => {
-            let (list, state) = locals_of::<W>(alloc, functions, around, told, state, d)?;
-            Ok((begin_declared(place_of_declaration(d), list), state))
+            let (at, list, state) = locals_of::<W>(alloc, functions, around, told, state, d)?;
+            Ok((begin_declared(at, list), state))
         }
     }
 }

@@ -1,21 +1,22 @@
 //! Statements without statements in them, and what is done behind those that have some.
 
-ghost use Rattle.std.specs.Prelude.{◌≡◌, Some, None, not, IfOk, OnOk};
+ghost use Rattle.std.specs.Prelude.{◌≡◌, ◌≤◌, length, Some, None, not, IfOk, OnOk};
 ghost use Rattle.c_tree.specs.declared.typed.Stat.TheVariants as stat;
 ghost use Rattle.c_typing.specs.Faults.{notes, ◌also◌};
 ghost use Rattle.c_typing.specs.Expressions.{broken_if, one, two, three};
 ghost use Rattle.c_typing.specs.Statements as spec;
 ghost use Rattle.c_scopes.specs.Here.{here_of};
 ghost use Rattle.c_objects.specs.Within.{within_of};
+ghost use Rattle.c_statements.specs.Left.{left};
 
 use crate::loops::ForParts;
 use crate::nodes;
 use c_conversions::Told;
 use c_objects::{
-    Functions, constant_of, expression_at, locals_of, place_of_declaration, tell_unless, value_at,
+    Functions, constant_of, expression_at, locals_of, tell_unless, value_at,
 };
 use c_names::NoMemory;
-use c_scopes::{State, tell_case, with_case};
+use c_scopes::{State, leave, tell_case, with_case};
 use c_tree::syntax::{Declaration, Expr};
 use c_tree::{At, Stat, TypedExpr};
 use c_typing::Around;
@@ -38,8 +39,8 @@ pub fn declared<'a, W: Word>(
     ensures here { IfOk result (λ r. here_of r.1 ≡ (spec.declared (within_of W.BITS functions.now) around (here_of state.entry) d.now).here) }
     ensures told { OnOk result (told.new.first ≡ notes told.old.first (spec.declared (within_of W.BITS functions.now) around (here_of state.entry) d.now).faults) }
 {
-    let (list, state) = locals_of::<W>(alloc, functions, around, told, state, d)?;
-    Ok((nodes::declare(alloc, place_of_declaration(d), list)?, state))
+    let (at, list, state) = locals_of::<W>(alloc, functions, around, told, state, d)?;
+    Ok((nodes::declare(alloc, at, list)?, state))
 }
 
 pub fn evaluated<'a, W: Word>(
@@ -188,16 +189,20 @@ pub fn behind_do<'a, W: Word>(
     Ok((nodes::do_loop(alloc, at, e.tree, a)?, state))
 }
 
+/// Leaves the scope of a `for`, which began behind so many names.
 pub fn behind_for<'a>(
     alloc: Global,
     at: At,
+    start: usize,
     parts: Option<ForParts>,
     a: Option<Boxed<Stat>>,
     state: State<'a>,
 ) -> Result<Walked<'a>, NoMemory>
+    requires { start ≤ length state.names.entries.items }
     ensures tree { IfOk result (λ r. r.0 ≡ two (spec.for_tree at) parts a) }
-    ensures here { IfOk result (λ r. here_of r.1 ≡ here_of state.entry) }
+    ensures here { IfOk result (λ r. here_of r.1 ≡ left start (here_of state.entry) (here_of state.entry)) }
 {
+    let state = leave(state, start)?;
     Ok((nodes::for_loop(alloc, at, parts, a)?, state))
 }
 

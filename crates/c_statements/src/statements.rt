@@ -130,8 +130,7 @@ fn statement<'a, W: Word>(
                 state,
                 a.get(),
             )?;
-            let state = leave(state, inner.start)?;
-            behind_for(alloc, *at, parts, a, state)
+            behind_for(alloc, *at, inner.start, parts, a, state)
         }
         Statement::Switch(at, e, list) => {
             let e = value_at::<W>(alloc, functions, told, &state.names, e)?;

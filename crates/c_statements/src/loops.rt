@@ -9,8 +9,8 @@ ghost use Rattle.c_scopes.specs.Here.{here_of};
 ghost use Rattle.c_objects.specs.Within.{within_of};
 
 use c_conversions::Told;
-use c_objects::{Functions, expression_at, locals_of, value_at};
 use c_names::NoMemory;
+use c_objects::{Functions, expression_at, locals_of, value_at};
 use c_scopes::State;
 use c_tree::syntax::{Expr, Start};
 use c_tree::typed::{Local, Start as Begin};

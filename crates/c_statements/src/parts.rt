@@ -12,10 +12,8 @@ ghost use Rattle.c_statements.specs.Left.{left};
 use crate::loops::ForParts;
 use crate::nodes;
 use c_conversions::Told;
-use c_objects::{
-    Functions, constant_of, expression_at, locals_of, tell_unless, value_at,
-};
 use c_names::NoMemory;
+use c_objects::{Functions, constant_of, expression_at, locals_of, tell_unless, value_at};
 use c_scopes::{State, leave, tell_case, with_case};
 use c_tree::syntax::{Declaration, Expr};
 use c_tree::{At, Stat, TypedExpr};

@@ -14,8 +14,8 @@ use crate::parts::{
     returned,
 };
 use c_conversions::Told;
-use c_objects::{Functions, value_at};
 use c_names::NoMemory;
+use c_objects::{Functions, value_at};
 use c_scopes::{
     State, in_block, in_switch, leave, looped, plain, tell_label, with_item, with_label,
     with_labels, without_labels,
@@ -134,8 +134,8 @@ fn statement<'a, W: Word>(
         }
         Statement::Switch(at, e, list) => {
             let e = value_at::<W>(alloc, functions, told, &state.names, e)?;
-            let inner = in_switch(around, &state);
             let (outer, own) = without_labels(alloc, state);
+            let inner = in_switch(around, &own);
             let (list, own) = sequence::<W>(alloc, functions, inner, told, own, list.as_slice())?;
             behind_switch(alloc, *at, e.tree, list, with_labels(own, outer))
         }

@@ -1,5 +1,5 @@
 -- What is told at the end, and the tree, are the answer.
-use Rattle.std.proofs.Common.{◌≡◌, ℕ, true, Option, Some, None, Result, Ok, Err, sym, ap, ◌∙◌, subst, List}
+use Rattle.std.proofs.Common.{◌≡◌, ℕ, true, Option, Some, None, Result, Ok, Err, sym, ap, ◌∙◌, subst}
 use Rattle.std.specs.Prelude.{IfOk, IfErr}
 use Rattle.std.proofs.lemmas.Bool.{true≢false}
 use Rattle.c_tree.specs.declared.fault.CFault.{CFault}
@@ -12,7 +12,7 @@ use Rattle.c_typing.specs.Expressions.{is_sound}
 use Rattle.c_typing.specs.Program.{program, IsTyped}
 use Rattle.c_typing.proofs.First.{tells_first, tells_none, clean_where_none}
 use Rattle.c_typing.proofs.Programs.{program_has_tree}
-use Rattle.c_types.specs.Answer.{fault_of, Refuses, HasAnswer, Answers}
+use Rattle.c_types.specs.Answer.{Refuses, HasAnswer, Answers}
 
 has : (fs : Faults) (n : Option Fault) (t : Option Typed) → notes None fs ≡ n → (clean fs ≡ true → is_sound t ≡ true) → HasAnswer n t
 has fs (Some f) None e h = tt

@@ -1,20 +1,18 @@
 -- One more of a list that is gone through: what was gathered, and what comes of the rest, is all.
-use Rattle.std.proofs.Common.{◌≡◌, ℕ, Bool, true, false, ◌||◌, ◌&&◌, ◌+◌, ◌<◌, suc, zero, length, Option, Some, None, List, [], ◌∷◌, ◌++◌, map, refl, sym, ap, ◌∙◌, slice_get, slice_set, arith}
+use Rattle.std.proofs.Common.{◌≡◌, ℕ, ◌+◌, ◌<◌, suc, length, Option, Some, None, List, ◌∷◌, ◌++◌, map, refl, sym, ap, ◌∙◌, slice_get, arith}
 use mathlib.Core.List.{append_assoc}
 use Rattle.std.proofs.lemmas.Option.{none-some, slice_get_within}
 use Rattle.c_tree.specs.declared.types.CType.{CType}
 use Rattle.c_tree.specs.declared.syntax.Expr.{Expr}
 use Rattle.c_tree.specs.declared.syntax.Item.{Item}
-use Rattle.c_tree.specs.declared.syntax.Parameter.{Parameter}
 use Rattle.c_tree.specs.declared.syntax.External.{External}
 use Rattle.c_tree.specs.declared.typed.Static.{Static}
 use Rattle.c_tree.specs.declared.typed.Function.{Function}
 use Rattle.c_typing.specs.declared.names.Fault.{Fault}
 use Rattle.c_typing.specs.declared.names.Extent.{Extent}
 use Rattle.c_typing.specs.declared.names.Signature.{Signature}
-use Rattle.c_typing.specs.Faults.{Faults, notes, ◌also◌}
+use Rattle.c_typing.specs.Faults.{notes, ◌also◌}
 use Rattle.c_typing.specs.Expressions.{Judged, broken_if}
-use Rattle.c_typing.specs.Functions.{Heading, headings, headings_in}
 use Rattle.c_typing.specs.Statements as st
 use Rattle.c_typing.specs.Program as spec
 use Rattle.c_scopes.proofs.Steps.{joined_assoc}
@@ -23,18 +21,18 @@ one_more : (n : ℕ) → n + 1 ≡ suc n
 one_more n = omega arith
 
 -- ---- static values
-module _ (w : ℕ) (t : CType) (f : Expr → Judged) (d : List Expr) (e : Expr) (rest : List Expr) (next : d ≡ e ∷ rest) where
-  pub words_step : (old new whole : List ℕ) → old ++ spec.static_words w t (map f d) ≡ whole → new ≡ old ++ spec.word_of w t (st.constant_of w (f e).seen.tree) → new ++ spec.static_words w t (map f rest) ≡ whole
+module _ (ss : List Signature) (w : ℕ) (t : CType) (f : Expr → Judged) (d : List Expr) (e : Expr) (rest : List Expr) (next : d ≡ e ∷ rest) where
+  pub words_step : (old new whole : List ℕ) → old ++ spec.static_words ss w t (map f d) ≡ whole → new ≡ old ++ spec.word_of ss w t (st.constant_of w (f e).seen.tree) → new ++ spec.static_words ss w t (map f rest) ≡ whole
   words_step old new whole inv made =
-      ap (λ zs. zs ++ spec.static_words w t (map f rest)) made ∙ append_assoc old (spec.word_of w t (st.constant_of w (f e).seen.tree)) (spec.static_words w t (map f rest))
-      ∙ ap (λ xs. old ++ spec.static_words w t (map f xs)) (sym next) ∙ inv
+      ap (λ zs. zs ++ spec.static_words ss w t (map f rest)) made ∙ append_assoc old (spec.word_of ss w t (st.constant_of w (f e).seen.tree)) (spec.static_words ss w t (map f rest))
+      ∙ ap (λ xs. old ++ spec.static_words ss w t (map f xs)) (sym next) ∙ inv
 
-  pub words_told : (x : Extent) (i j : ℕ) (old new whole : Option Fault) → notes old (spec.static_faults w x i (map f d)) ≡ whole
-      → new ≡ notes old (spec.static_fault w (f e) also broken_if (st.is_full x i) 19 (f e).seen.at) → j ≡ i + 1 → notes new (spec.static_faults w x j (map f rest)) ≡ whole
+  pub words_told : (x : Extent) (i j : ℕ) (old new whole : Option Fault) → notes old (spec.static_faults ss w x i (map f d)) ≡ whole
+      → new ≡ notes old (spec.static_fault ss w (f e) also broken_if (st.is_full x i) 19 (f e).seen.at) → j ≡ i + 1 → notes new (spec.static_faults ss w x j (map f rest)) ≡ whole
   words_told x i j old new whole inv told later =
-      ap (λ k. notes new (spec.static_faults w x k (map f rest))) (later ∙ one_more i)
-      ∙ ap (λ n. notes n (spec.static_faults w x (suc i) (map f rest))) told
-      ∙ ap (λ xs. notes old (spec.static_faults w x i (map f xs))) (sym next) ∙ inv
+      ap (λ k. notes new (spec.static_faults ss w x k (map f rest))) (later ∙ one_more i)
+      ∙ ap (λ n. notes n (spec.static_faults ss w x (suc i) (map f rest))) told
+      ∙ ap (λ xs. notes old (spec.static_faults ss w x i (map f xs))) (sym next) ∙ inv
 
 -- ---- static objects
 module _ (ss : List Signature) (w : ℕ) (t : CType) (d : List Item) (x : Item) (rest : List Item) (next : d ≡ x ∷ rest) (f g : spec.File) (file : g ≡ (spec.static_item ss w f t x).0) where

@@ -14,11 +14,11 @@ ghost use Rattle.c_functions.specs.Tables.{number_at};
 
 use crate::statics::static_items;
 use c_conversions::{Told, type_of_words};
-use c_objects::Functions;
 use c_functions::{
     Definitions, File, Params, Place, tell_heading, with_heading, with_include, with_parameters,
 };
 use c_names::{Names, NoMemory};
+use c_objects::Functions;
 use c_scopes::{State, return_type};
 use c_statements::sequence;
 use c_tree::syntax::{Declaration, External, Identifier, Parameters, Return, Statement};
@@ -27,6 +27,13 @@ use c_typing::{Around, Signature};
 use rtl_word::Word;
 use sqlite_items::{Boxed, Items};
 use std::alloc::Global;
+
+/// How many names stand outside.
+fn outside(names: &Names<'_>) -> usize
+    ensures { result ≡ length (entries_of names.now.entries.items) }
+{
+    names.count()
+}
 
 fn around_body(of: CType, start: usize) -> Around
     ensures { result ≡ spec.around_body of start }
@@ -117,7 +124,7 @@ fn defined_body<'a, W: Word>(
         definitions,
         included,
     } = file;
-    let start = names.count();
+    let start = outside(&names);
     let place = Place {
         included,
         start,
@@ -172,7 +179,7 @@ fn prototype<'a>(
         definitions,
         included,
     } = file;
-    let start = names.count();
+    let start = outside(&names);
     let place = Place {
         included,
         start,

@@ -1,7 +1,8 @@
 //! Initialisers of static objects (C11 6.7.9p4).
 
-ghost use Rattle.std.specs.Prelude.{◌≡◌, ◌<◌, ◌^◌, ◌++◌, [], map, IfOk, OnOk, IfSome};
+ghost use Rattle.std.specs.Prelude.{◌≡◌, ◌<◌, ◌^◌, ◌++◌, [], List, map, IfOk, OnOk, IfSome};
 ghost use Rattle.c_tree.specs.declared.syntax.Initialiser.TheVariants as initialiser;
+ghost use Rattle.c_typing.specs.declared.names.Signature.{Signature};
 ghost use Rattle.c_typing.specs.Faults.{notes, ◌also◌};
 ghost use Rattle.c_typing.specs.Expressions.{broken_if};
 ghost use Rattle.c_typing.specs.Statements as st;
@@ -10,9 +11,9 @@ ghost use Rattle.c_functions.specs.Files.{file_of};
 
 use c_constants::as_type;
 use c_conversions::Told;
-use c_objects::{Functions, constant_of, expression_at, is_full, tell_unless};
 use c_functions::File;
 use c_names::NoMemory;
+use c_objects::{Functions, constant_of, expression_at, is_full, tell_unless};
 use c_tree::syntax::{Expr, Initialiser};
 use c_tree::{At, CType};
 use c_typing::{Extent, Signature};
@@ -31,7 +32,7 @@ fn constant<W: Word>(
     ensures at { IfOk result (λ r. r.0 ≡ (spec.judged_at signatures.now W.BITS (file_of file.now) e.now).seen.at) }
     ensures value { IfOk result (λ r. r.1 ≡ st.constant_of W.BITS (spec.judged_at signatures.now W.BITS (file_of file.now) e.now).seen.tree) }
     ensures fits { IfOk result (λ r. IfSome r.1 (λ v. v < 2 ^ W.BITS)) }
-    ensures told { OnOk result (told.new.first ≡ notes told.old.first (spec.static_fault W.BITS (spec.judged_at signatures.now W.BITS (file_of file.now) e.now))) }
+    ensures told { OnOk result (told.new.first ≡ notes told.old.first (spec.static_fault signatures.now W.BITS (spec.judged_at signatures.now W.BITS (file_of file.now) e.now))) }
 {
     let functions = Functions {
         signatures,
@@ -50,7 +51,7 @@ fn with_word<W: Word>(
     value: Option<u32>,
 ) -> Result<Items<u32>, NoMemory>
     requires { IfSome value (λ v. v < 2 ^ W.BITS) }
-    ensures { IfOk result (λ r. r ≡ words ++ spec.word_of W.BITS of value) }
+    ensures { IfOk result (λ r. (ss : List Signature) → r ≡ words ++ spec.word_of ss W.BITS of value) }
 {
     match value {
         None => Ok(words),
@@ -73,14 +74,15 @@ fn with_listed<W: Word>(
     count: usize,
     e: &Expr,
 ) -> Result<Items<u32>, NoMemory>
-    ensures words { IfOk result (λ r. r ≡ words ++ spec.word_of W.BITS of (st.constant_of W.BITS (spec.judged_at signatures.now W.BITS (file_of file.now) e.now).seen.tree)) }
+    ensures words { IfOk result (λ r. r ≡ words ++ spec.word_of signatures.now W.BITS of (st.constant_of W.BITS (spec.judged_at signatures.now W.BITS (file_of file.now) e.now).seen.tree)) }
     ensures told { OnOk result (told.new.first ≡ notes told.old.first
         (let j = spec.judged_at signatures.now W.BITS (file_of file.now) e.now in
-        spec.static_fault W.BITS j also broken_if (st.is_full extent count) 19 j.seen.at)) }
+        spec.static_fault signatures.now W.BITS j also broken_if (st.is_full extent count) 19 j.seen.at)) }
 {
     let (at, value) = constant::<W>(alloc, signatures, told, file, e)?;
     told.tell_if(is_full(extent, count), 19, at);
-    with_word::<W>(words, of, value)
+    let more = with_word::<W>(words, of, value)?;
+    Ok(more)
 }
 
 fn listed<W: Word>(
@@ -92,8 +94,8 @@ fn listed<W: Word>(
     extent: Extent,
     list: &[Expr],
 ) -> Result<Items<u32>, NoMemory>
-    ensures words { IfOk result (λ r. r ≡ spec.static_words W.BITS of (map (spec.judged_at signatures.now W.BITS (file_of file.now)) list.now)) }
-    ensures told { OnOk result (told.new.first ≡ notes told.old.first (spec.static_faults W.BITS extent 0 (map (spec.judged_at signatures.now W.BITS (file_of file.now)) list.now))) }
+    ensures words { IfOk result (λ r. r ≡ spec.static_words signatures.now W.BITS of (map (spec.judged_at signatures.now W.BITS (file_of file.now)) list.now)) }
+    ensures told { OnOk result (told.new.first ≡ notes told.old.first (spec.static_faults signatures.now W.BITS extent 0 (map (spec.judged_at signatures.now W.BITS (file_of file.now)) list.now))) }
 {
     let mut words = Items::new(alloc);
     let mut i = 0;
@@ -119,7 +121,10 @@ fn initial_value<W: Word>(
 {
     let (at, value) = constant::<W>(alloc, signatures, told, file, e)?;
     match extent {
-        Extent::Scalar => with_word::<W>(Items::new(alloc), of, value),
+        Extent::Scalar => {
+            let more = with_word::<W>(Items::new(alloc), of, value)?;
+            Ok(more)
+        }
         Extent::Elements(_) => {
             told.tell(19, at);
             Ok(Items::new(alloc))

@@ -11,9 +11,9 @@ ghost use Rattle.c_functions.specs.Files.{file_of};
 
 use crate::static_values::static_values;
 use c_conversions::{Told, same_type};
-use c_objects::{Functions, extent_of, is_absent, length_of, sized};
 use c_functions::File;
 use c_names::NoMemory;
+use c_objects::{Functions, extent_of, is_absent, length_of, sized};
 use c_scopes::is_forbidden_object;
 use c_tree::syntax::{Initialiser, Item};
 use c_tree::typed::{Static, Variable};
@@ -242,7 +242,8 @@ fn set_values(
 ) -> Result<Items<Static>, NoMemory>
     ensures { IfOk result (λ r. r ≡ spec.set_some statics k (spec.with_values (slice_get statics k) values)) }
 {
-    match with_values(alloc, at(statics.as_slice(), k as usize), values)? {
+    let given = with_values(alloc, at(statics.as_slice(), k as usize), values)?;
+    match given {
         None => Ok(statics),
         Some(object) => {
             statics.set(k as usize, object);

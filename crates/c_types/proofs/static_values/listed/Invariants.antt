@@ -10,6 +10,6 @@ invariant-loop-e g l =
     let f = spec.judged_at l.signatures w (file_of l.file) in
     record {
       index : l.i ≡ l.e-index;
-      words : l.words ++ spec.static_words w l.of (map f (drop l.e-index l.list)) ≡ spec.static_words w l.of (map f l.list);
-      told : notes l.told.first (spec.static_faults w l.extent l.i (map f (drop l.e-index l.list))) ≡ notes l.fn.told.first (spec.static_faults w l.extent 0 (map f l.list));
+      words : l.words ++ spec.static_words l.signatures w l.of (map f (drop l.e-index l.list)) ≡ spec.static_words l.signatures w l.of (map f l.list);
+      told : notes l.told.first (spec.static_faults l.signatures w l.extent l.i (map f (drop l.e-index l.list))) ≡ notes l.fn.told.first (spec.static_faults l.signatures w l.extent 0 (map f l.list));
     }

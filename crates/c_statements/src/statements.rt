@@ -83,16 +83,23 @@ fn statement<'a, W: Word>(
         }
         Statement::Declared(d) => declared::<W>(alloc, functions, around, told, state, d),
         Statement::Evaluate(at, e) => evaluated::<W>(alloc, functions, told, state, *at, e),
-        Statement::If(at, e, a, None) => {
+        Statement::If(at, e, a, other) => {
             let e = value_at::<W>(alloc, functions, told, &state.names, e)?;
             let (a, state) = statement::<W>(alloc, functions, plain(around), told, state, a.get())?;
-            behind_if(alloc, *at, e.tree, a, state)
-        }
-        Statement::If(at, e, a, Some(b)) => {
-            let e = value_at::<W>(alloc, functions, told, &state.names, e)?;
-            let (a, state) = statement::<W>(alloc, functions, plain(around), told, state, a.get())?;
-            let (b, state) = statement::<W>(alloc, functions, plain(around), told, state, b.get())?;
-            behind_else(alloc, *at, e.tree, a, b, state)
+            match other {
+                None => behind_if(alloc, *at, e.tree, a, state),
+                Some(b) => {
+                    let (b, state) = statement::<W>(
+                        alloc,
+                        functions,
+                        plain(around),
+                        told,
+                        state,
+                        b.get(),
+                    )?;
+                    behind_else(alloc, *at, e.tree, a, b, state)
+                }
+            }
         }
         Statement::While(at, e, a) => {
             let e = value_at::<W>(alloc, functions, told, &state.names, e)?;

@@ -69,74 +69,6 @@ statement-returns-in_ok-list-in-Block-clause-here g t c =
     (block_walk w c.args.around h c.args.s.now c.in-Block.at c.as_slice.result.now c.in_block-inner.result (here_of c.in_ok-list-in-Block.state) is c.in_block-inner.ensures c.in_ok-list-in-Block.ensures.here)
     c.behind_block.ensures.here
 
-pub statement-returns-in_ok-a-in-If-default-default-default-None-clause-tree : goal.statement-returns-in_ok-a-in-If-default-default-default-None-clause-tree
-statement-returns-in_ok-a-in-If-default-default-default-None-clause-tree g t c =
-    let w = within_of g.W.Word.BITS c.args.functions.now in
-    let h = here_of c.args.state in
-    let is : c.args.s.now ≡ tree.If c.in-If-default-default-default-None.at c.in-If-default-default-default-None.e c.get.result.now None =
-    c.in-If-default-default-default-None.is ∙ ap (λ (o : Option Statement). tree.If c.in-If-default-default-default-None.at c.in-If-default-default-default-None.e c.in-If-default-default-default-None.a o) c.in-If-default-default-default-None.field-3-is ∙ ap (λ (a : Statement). tree.If c.in-If-default-default-default-None.at c.in-If-default-default-default-None.e a None) (sym c.get.ensures) in
-    let x = spec.walk w c.get.result.now c.plain.result h in
-    let arm = if_walk w c.args.around h c.args.s.now c.in-If-default-default-default-None.at c.in-If-default-default-default-None.e c.get.result.now c.in_ok-e-in-If-default-default-default-None.e c.plain.result is c.in_ok-e-in-If-default-default-default-None.ensures.seen c.plain.ensures in
-    subst (λ (y : Option Stat). IfOk c.behind_if.result (λ r. r.0 ≡ y)) (ap (two (spec.if_tree c.in-If-default-default-default-None.at) c.in_ok-e-in-If-default-default-default-None.e.tree) c.in_ok-a-in-If-default-default-default-None.ensures.tree ∙ ap (λ (y : spec.Walked Stat). y.tree) arm) c.behind_if.ensures.tree
-
-pub statement-returns-in_ok-a-in-If-default-default-default-None-clause-here : goal.statement-returns-in_ok-a-in-If-default-default-default-None-clause-here
-statement-returns-in_ok-a-in-If-default-default-default-None-clause-here g t c =
-    let w = within_of g.W.Word.BITS c.args.functions.now in
-    let h = here_of c.args.state in
-    let is : c.args.s.now ≡ tree.If c.in-If-default-default-default-None.at c.in-If-default-default-default-None.e c.get.result.now None =
-    c.in-If-default-default-default-None.is ∙ ap (λ (o : Option Statement). tree.If c.in-If-default-default-default-None.at c.in-If-default-default-default-None.e c.in-If-default-default-default-None.a o) c.in-If-default-default-default-None.field-3-is ∙ ap (λ (a : Statement). tree.If c.in-If-default-default-default-None.at c.in-If-default-default-default-None.e a None) (sym c.get.ensures) in
-    let x = spec.walk w c.get.result.now c.plain.result h in
-    let arm = if_walk w c.args.around h c.args.s.now c.in-If-default-default-default-None.at c.in-If-default-default-default-None.e c.get.result.now c.in_ok-e-in-If-default-default-default-None.e c.plain.result is c.in_ok-e-in-If-default-default-default-None.ensures.seen c.plain.ensures in
-    subst (λ (k : spec.Here). IfOk c.behind_if.result (λ r. here_of r.1 ≡ k)) (c.in_ok-a-in-If-default-default-default-None.ensures.here ∙ ap (λ (y : spec.Walked Stat). y.here) arm) c.behind_if.ensures.here
-
-pub statement-returns-in_ok-a-in-If-default-default-default-None-clause-told : goal.statement-returns-in_ok-a-in-If-default-default-default-None-clause-told
-statement-returns-in_ok-a-in-If-default-default-default-None-clause-told g t c =
-    let w = within_of g.W.Word.BITS c.args.functions.now in
-    let h = here_of c.args.state in
-    let is : c.args.s.now ≡ tree.If c.in-If-default-default-default-None.at c.in-If-default-default-default-None.e c.get.result.now None =
-    c.in-If-default-default-default-None.is ∙ ap (λ (o : Option Statement). tree.If c.in-If-default-default-default-None.at c.in-If-default-default-default-None.e c.in-If-default-default-default-None.a o) c.in-If-default-default-default-None.field-3-is ∙ ap (λ (a : Statement). tree.If c.in-If-default-default-default-None.at c.in-If-default-default-default-None.e a None) (sym c.get.ensures) in
-    let x = spec.walk w c.get.result.now c.plain.result h in
-    let arm = if_walk w c.args.around h c.args.s.now c.in-If-default-default-default-None.at c.in-If-default-default-default-None.e c.get.result.now c.in_ok-e-in-If-default-default-default-None.e c.plain.result is c.in_ok-e-in-If-default-default-default-None.ensures.seen c.plain.ensures in
-    on_ok c.behind_if.result (c.in_ok-a-in-If-default-default-default-None.ensures.told ∙ ap (λ (n : Option Fault). notes n x.faults) c.in_ok-e-in-If-default-default-default-None.ensures.told ∙ ap (λ (y : spec.Walked Stat). notes c.args.told.now.first y.faults) arm)
-
-pub statement-returns-in_ok-b-in-If-default-default-default-Some-clause-tree : goal.statement-returns-in_ok-b-in-If-default-default-default-Some-clause-tree
-statement-returns-in_ok-b-in-If-default-default-default-Some-clause-tree g t c =
-    let w = within_of g.W.Word.BITS c.args.functions.now in
-    let h = here_of c.args.state in
-    let a = c.get-in-If-default-default-default-Some.result.now in
-    let b = c.get-in-If-default-default-default-Some-2.result.now in
-    let is : c.args.s.now ≡ tree.If c.in-If-default-default-default-Some.at c.in-If-default-default-default-Some.e a (Some b) = search rules in
-    let x = spec.walk w a c.plain-in-If-default-default-default-Some.result h in
-    let y = spec.walk w b c.plain-in-If-default-default-default-Some-2.result x.here in
-    let arm = else_walk w c.args.around h c.args.s.now c.in-If-default-default-default-Some.at c.in-If-default-default-default-Some.e a b c.in_ok-e-in-If-default-default-default-Some.e c.plain-in-If-default-default-default-Some.result c.plain-in-If-default-default-default-Some-2.result is c.in_ok-e-in-If-default-default-default-Some.ensures.seen c.plain-in-If-default-default-default-Some.ensures c.plain-in-If-default-default-default-Some-2.ensures in
-    subst (λ (y : Option Stat). IfOk c.behind_else.result (λ r. r.0 ≡ y)) (ap (λ (k : Option Stat). three (spec.if_else_tree c.in-If-default-default-default-Some.at) c.in_ok-e-in-If-default-default-default-Some.e.tree k c.in_ok-b-in-If-default-default-default-Some.b) c.in_ok-a-in-If-default-default-default-Some.ensures.tree
-    ∙ ap (three (spec.if_else_tree c.in-If-default-default-default-Some.at) c.in_ok-e-in-If-default-default-default-Some.e.tree x.tree) (c.in_ok-b-in-If-default-default-default-Some.ensures.tree ∙ ap (λ (k : spec.Here). (spec.walk w b c.plain-in-If-default-default-default-Some-2.result k).tree) c.in_ok-a-in-If-default-default-default-Some.ensures.here) ∙ ap (λ (y : spec.Walked Stat). y.tree) arm) c.behind_else.ensures.tree
-
-pub statement-returns-in_ok-b-in-If-default-default-default-Some-clause-here : goal.statement-returns-in_ok-b-in-If-default-default-default-Some-clause-here
-statement-returns-in_ok-b-in-If-default-default-default-Some-clause-here g t c =
-    let w = within_of g.W.Word.BITS c.args.functions.now in
-    let h = here_of c.args.state in
-    let a = c.get-in-If-default-default-default-Some.result.now in
-    let b = c.get-in-If-default-default-default-Some-2.result.now in
-    let is : c.args.s.now ≡ tree.If c.in-If-default-default-default-Some.at c.in-If-default-default-default-Some.e a (Some b) = search rules in
-    let x = spec.walk w a c.plain-in-If-default-default-default-Some.result h in
-    let y = spec.walk w b c.plain-in-If-default-default-default-Some-2.result x.here in
-    let arm = else_walk w c.args.around h c.args.s.now c.in-If-default-default-default-Some.at c.in-If-default-default-default-Some.e a b c.in_ok-e-in-If-default-default-default-Some.e c.plain-in-If-default-default-default-Some.result c.plain-in-If-default-default-default-Some-2.result is c.in_ok-e-in-If-default-default-default-Some.ensures.seen c.plain-in-If-default-default-default-Some.ensures c.plain-in-If-default-default-default-Some-2.ensures in
-    subst (λ (k : spec.Here). IfOk c.behind_else.result (λ r. here_of r.1 ≡ k)) (c.in_ok-b-in-If-default-default-default-Some.ensures.here ∙ ap (λ (k : spec.Here). (spec.walk w b c.plain-in-If-default-default-default-Some-2.result k).here) c.in_ok-a-in-If-default-default-default-Some.ensures.here ∙ ap (λ (y : spec.Walked Stat). y.here) arm) c.behind_else.ensures.here
-
-pub statement-returns-in_ok-b-in-If-default-default-default-Some-clause-told : goal.statement-returns-in_ok-b-in-If-default-default-default-Some-clause-told
-statement-returns-in_ok-b-in-If-default-default-default-Some-clause-told g t c =
-    let w = within_of g.W.Word.BITS c.args.functions.now in
-    let h = here_of c.args.state in
-    let a = c.get-in-If-default-default-default-Some.result.now in
-    let b = c.get-in-If-default-default-default-Some-2.result.now in
-    let is : c.args.s.now ≡ tree.If c.in-If-default-default-default-Some.at c.in-If-default-default-default-Some.e a (Some b) = search rules in
-    let x = spec.walk w a c.plain-in-If-default-default-default-Some.result h in
-    let y = spec.walk w b c.plain-in-If-default-default-default-Some-2.result x.here in
-    let arm = else_walk w c.args.around h c.args.s.now c.in-If-default-default-default-Some.at c.in-If-default-default-default-Some.e a b c.in_ok-e-in-If-default-default-default-Some.e c.plain-in-If-default-default-default-Some.result c.plain-in-If-default-default-default-Some-2.result is c.in_ok-e-in-If-default-default-default-Some.ensures.seen c.plain-in-If-default-default-default-Some.ensures c.plain-in-If-default-default-default-Some-2.ensures in
-    on_ok c.behind_else.result (c.in_ok-b-in-If-default-default-default-Some.ensures.told ∙ ap (λ (k : spec.Here). notes c.statement-in-If-default-default-default-Some.new.told.first (spec.walk w b c.plain-in-If-default-default-default-Some-2.result k).faults) c.in_ok-a-in-If-default-default-default-Some.ensures.here
-    ∙ ap (λ (n : Option Fault). notes n y.faults) (c.in_ok-a-in-If-default-default-default-Some.ensures.told ∙ ap (λ (n : Option Fault). notes n x.faults) c.in_ok-e-in-If-default-default-default-Some.ensures.told) ∙ ap (λ (y : spec.Walked Stat). notes c.args.told.now.first y.faults) arm)
-
 pub statement-returns-in_ok-a-in-While-clause-tree : goal.statement-returns-in_ok-a-in-While-clause-tree
 statement-returns-in_ok-a-in-While-clause-tree g t c =
     let w = within_of g.W.Word.BITS c.args.functions.now in
@@ -264,3 +196,79 @@ statement-returns-in_ok-a-in-Case-clause-told g t c =
     let arm = case_walk w c.args.around h c.args.s.now c.in-Case.at c.in-Case.e c.get-in-Case.result.now is in
     on_ok c.behind_case.result (c.in_ok-a-in-Case.ensures.told ∙ ap (λ (k : spec.Here). notes c.case_value.new.told.first (x k).faults) c.in_ok-value-in-Case.ensures.here
     ∙ ap (λ (n : Option Fault). notes n (x (spec.with_case c.args.around h v)).faults) c.in_ok-value-in-Case.ensures.told ∙ ap (λ (y : spec.Walked Stat). notes c.args.told.now.first y.faults) arm)
+
+-- `if`
+
+pub statement-returns-in-None-clause-tree : goal.statement-returns-in-None-clause-tree
+statement-returns-in-None-clause-tree g t c =
+    let w = within_of g.W.Word.BITS c.args.functions.now in
+    let h = here_of c.args.state in
+    let is : c.args.s.now ≡ tree.If c.in-If.at c.in-If.e c.get.result.now None =
+    c.in-If.is ∙ ap (λ (o : Option Statement). tree.If c.in-If.at c.in-If.e c.in-If.a o) c.in-None.is ∙ ap (λ (a : Statement). tree.If c.in-If.at c.in-If.e a None) (sym c.get.ensures) in
+    let x = spec.walk w c.get.result.now c.plain.result h in
+    let arm = if_walk w c.args.around h c.args.s.now c.in-If.at c.in-If.e c.get.result.now c.in_ok-e-in-If.e c.plain.result is c.in_ok-e-in-If.ensures.seen c.plain.ensures in
+    subst (λ (y : Option Stat). IfOk c.behind_if.result (λ r. r.0 ≡ y)) (ap (two (spec.if_tree c.in-If.at) c.in_ok-e-in-If.e.tree) c.in_ok-a-in-If.ensures.tree ∙ ap (λ (y : spec.Walked Stat). y.tree) arm) c.behind_if.ensures.tree
+
+pub statement-returns-in-None-clause-here : goal.statement-returns-in-None-clause-here
+statement-returns-in-None-clause-here g t c =
+    let w = within_of g.W.Word.BITS c.args.functions.now in
+    let h = here_of c.args.state in
+    let is : c.args.s.now ≡ tree.If c.in-If.at c.in-If.e c.get.result.now None =
+    c.in-If.is ∙ ap (λ (o : Option Statement). tree.If c.in-If.at c.in-If.e c.in-If.a o) c.in-None.is ∙ ap (λ (a : Statement). tree.If c.in-If.at c.in-If.e a None) (sym c.get.ensures) in
+    let x = spec.walk w c.get.result.now c.plain.result h in
+    let arm = if_walk w c.args.around h c.args.s.now c.in-If.at c.in-If.e c.get.result.now c.in_ok-e-in-If.e c.plain.result is c.in_ok-e-in-If.ensures.seen c.plain.ensures in
+    subst (λ (k : spec.Here). IfOk c.behind_if.result (λ r. here_of r.1 ≡ k)) (c.in_ok-a-in-If.ensures.here ∙ ap (λ (y : spec.Walked Stat). y.here) arm) c.behind_if.ensures.here
+
+pub statement-returns-in-None-clause-told : goal.statement-returns-in-None-clause-told
+statement-returns-in-None-clause-told g t c =
+    let w = within_of g.W.Word.BITS c.args.functions.now in
+    let h = here_of c.args.state in
+    let is : c.args.s.now ≡ tree.If c.in-If.at c.in-If.e c.get.result.now None =
+    c.in-If.is ∙ ap (λ (o : Option Statement). tree.If c.in-If.at c.in-If.e c.in-If.a o) c.in-None.is ∙ ap (λ (a : Statement). tree.If c.in-If.at c.in-If.e a None) (sym c.get.ensures) in
+    let x = spec.walk w c.get.result.now c.plain.result h in
+    let arm = if_walk w c.args.around h c.args.s.now c.in-If.at c.in-If.e c.get.result.now c.in_ok-e-in-If.e c.plain.result is c.in_ok-e-in-If.ensures.seen c.plain.ensures in
+    on_ok c.behind_if.result (c.in_ok-a-in-If.ensures.told ∙ ap (λ (n : Option Fault). notes n x.faults) c.in_ok-e-in-If.ensures.told ∙ ap (λ (y : spec.Walked Stat). notes c.args.told.now.first y.faults) arm)
+
+pub statement-returns-in_ok-b-in-Some-clause-tree : goal.statement-returns-in_ok-b-in-Some-clause-tree
+statement-returns-in_ok-b-in-Some-clause-tree g t c =
+    let w = within_of g.W.Word.BITS c.args.functions.now in
+    let h = here_of c.args.state in
+    let a = c.get.result.now in
+    let b = c.get-in-Some.result.now in
+    let is : c.args.s.now ≡ tree.If c.in-If.at c.in-If.e a (Some b) =
+    c.in-If.is ∙ ap (λ (o : Option Statement). tree.If c.in-If.at c.in-If.e c.in-If.a o) c.in-Some.is
+    ∙ ap (λ (z : Statement). tree.If c.in-If.at c.in-If.e c.in-If.a (Some z)) (sym c.get-in-Some.ensures) ∙ ap (λ (z : Statement). tree.If c.in-If.at c.in-If.e z (Some b)) (sym c.get.ensures) in
+    let x = spec.walk w a c.plain.result h in
+    let y = spec.walk w b c.plain-in-Some.result x.here in
+    let arm = else_walk w c.args.around h c.args.s.now c.in-If.at c.in-If.e a b c.in_ok-e-in-If.e c.plain.result c.plain-in-Some.result is c.in_ok-e-in-If.ensures.seen c.plain.ensures c.plain-in-Some.ensures in
+    subst (λ (y : Option Stat). IfOk c.behind_else.result (λ r. r.0 ≡ y)) (ap (λ (k : Option Stat). three (spec.if_else_tree c.in-If.at) c.in_ok-e-in-If.e.tree k c.in_ok-b-in-Some.b) c.in_ok-a-in-If.ensures.tree
+    ∙ ap (three (spec.if_else_tree c.in-If.at) c.in_ok-e-in-If.e.tree x.tree) (c.in_ok-b-in-Some.ensures.tree ∙ ap (λ (k : spec.Here). (spec.walk w b c.plain-in-Some.result k).tree) c.in_ok-a-in-If.ensures.here) ∙ ap (λ (y : spec.Walked Stat). y.tree) arm) c.behind_else.ensures.tree
+
+pub statement-returns-in_ok-b-in-Some-clause-here : goal.statement-returns-in_ok-b-in-Some-clause-here
+statement-returns-in_ok-b-in-Some-clause-here g t c =
+    let w = within_of g.W.Word.BITS c.args.functions.now in
+    let h = here_of c.args.state in
+    let a = c.get.result.now in
+    let b = c.get-in-Some.result.now in
+    let is : c.args.s.now ≡ tree.If c.in-If.at c.in-If.e a (Some b) =
+    c.in-If.is ∙ ap (λ (o : Option Statement). tree.If c.in-If.at c.in-If.e c.in-If.a o) c.in-Some.is
+    ∙ ap (λ (z : Statement). tree.If c.in-If.at c.in-If.e c.in-If.a (Some z)) (sym c.get-in-Some.ensures) ∙ ap (λ (z : Statement). tree.If c.in-If.at c.in-If.e z (Some b)) (sym c.get.ensures) in
+    let x = spec.walk w a c.plain.result h in
+    let y = spec.walk w b c.plain-in-Some.result x.here in
+    let arm = else_walk w c.args.around h c.args.s.now c.in-If.at c.in-If.e a b c.in_ok-e-in-If.e c.plain.result c.plain-in-Some.result is c.in_ok-e-in-If.ensures.seen c.plain.ensures c.plain-in-Some.ensures in
+    subst (λ (k : spec.Here). IfOk c.behind_else.result (λ r. here_of r.1 ≡ k)) (c.in_ok-b-in-Some.ensures.here ∙ ap (λ (k : spec.Here). (spec.walk w b c.plain-in-Some.result k).here) c.in_ok-a-in-If.ensures.here ∙ ap (λ (y : spec.Walked Stat). y.here) arm) c.behind_else.ensures.here
+
+pub statement-returns-in_ok-b-in-Some-clause-told : goal.statement-returns-in_ok-b-in-Some-clause-told
+statement-returns-in_ok-b-in-Some-clause-told g t c =
+    let w = within_of g.W.Word.BITS c.args.functions.now in
+    let h = here_of c.args.state in
+    let a = c.get.result.now in
+    let b = c.get-in-Some.result.now in
+    let is : c.args.s.now ≡ tree.If c.in-If.at c.in-If.e a (Some b) =
+    c.in-If.is ∙ ap (λ (o : Option Statement). tree.If c.in-If.at c.in-If.e c.in-If.a o) c.in-Some.is
+    ∙ ap (λ (z : Statement). tree.If c.in-If.at c.in-If.e c.in-If.a (Some z)) (sym c.get-in-Some.ensures) ∙ ap (λ (z : Statement). tree.If c.in-If.at c.in-If.e z (Some b)) (sym c.get.ensures) in
+    let x = spec.walk w a c.plain.result h in
+    let y = spec.walk w b c.plain-in-Some.result x.here in
+    let arm = else_walk w c.args.around h c.args.s.now c.in-If.at c.in-If.e a b c.in_ok-e-in-If.e c.plain.result c.plain-in-Some.result is c.in_ok-e-in-If.ensures.seen c.plain.ensures c.plain-in-Some.ensures in
+    on_ok c.behind_else.result (c.in_ok-b-in-Some.ensures.told ∙ ap (λ (k : spec.Here). notes c.statement.new.told.first (spec.walk w b c.plain-in-Some.result k).faults) c.in_ok-a-in-If.ensures.here
+    ∙ ap (λ (n : Option Fault). notes n y.faults) (c.in_ok-a-in-If.ensures.told ∙ ap (λ (n : Option Fault). notes n x.faults) c.in_ok-e-in-If.ensures.told) ∙ ap (λ (y : spec.Walked Stat). notes c.args.told.now.first y.faults) arm)

@@ -5,7 +5,10 @@ use Rattle.std.proofs.lemmas.Slice.Eq.{bytes_eq-Decides}
 use Rattle.std.specs.Str.{bytes_eq}
 use Rattle.std.specs.Borrow.{Bor}
 use Rattle.std.specs.HashMap.{HashMap}
-use Rattle.c_typing.specs.Functions.{Heading, definition_from}
+use Rattle.c_tree.specs.declared.syntax.Declaration.{Declaration}
+use Rattle.c_tree.specs.declared.syntax.Declaration.TheVariants as declaration
+use Rattle.c_tree.specs.declared.syntax.External.TheVariants as external
+use Rattle.c_typing.specs.Functions.{Heading, headings_in, definition_from}
 use Rattle.c_functions.specs.Tables.{number_at, first_of}
 
 pub first_none : (x : Option ℕ) → first_of x None ≡ x
@@ -51,3 +54,9 @@ defined before after k count name other rest e c =
     ap (λ x. first_of x (definition_from count rest other)) e
     ∙ nested before (bytes_eq name other) k (definition_from count rest other)
     ∙ ap (λ n. first_of before (if bytes_eq name other then Some k else definition_from n rest other)) (c ∙ one_more k)
+
+-- a declaration defines nothing
+pub declares : (t : Option ℕ) (d : Declaration) (k : ℕ) (rest : List Heading) (name : List ℕ)
+    → first_of t (definition_from k rest name) ≡ first_of t (definition_from k (headings_in (external.Declared d) ++ rest) name)
+declares t (declaration.Objects at of items) k rest name = refl
+declares t (declaration.Function at gives n ps) k rest name = refl

@@ -1,4 +1,3 @@
 pub mod Tables
 pub mod Steps
-pub mod Params
-pub mod Above
+pub mod Behind

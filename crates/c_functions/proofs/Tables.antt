@@ -7,6 +7,7 @@ use Rattle.std.specs.Borrow.{Bor}
 use Rattle.std.specs.HashMap.{HashMap}
 use Rattle.c_tree.specs.declared.syntax.Declaration.{Declaration}
 use Rattle.c_tree.specs.declared.syntax.Declaration.TheVariants as declaration
+use Rattle.c_tree.specs.declared.syntax.External.{External}
 use Rattle.c_tree.specs.declared.syntax.External.TheVariants as external
 use Rattle.c_typing.specs.Functions.{Heading, headings_in, definition_from}
 use Rattle.c_functions.specs.Tables.{number_at, first_of}
@@ -48,15 +49,20 @@ nested None true k y = refl
 nested None false k y = refl
 
 -- one more definition, of this name
-pub defined : (before after : Option ℕ) (k count : ℕ) (name other : List ℕ) (rest : List Heading) → after ≡ first_of before (if bytes_eq name other then Some k else None) → count ≡ k + 1
-    → first_of after (definition_from count rest other) ≡ first_of before (if bytes_eq name other then Some k else definition_from (suc k) rest other)
-defined before after k count name other rest e c =
+pub defined : (before after : Option ℕ) (k count : ℕ) (name own other : List ℕ) (rest : List Heading) → after ≡ first_of before (if bytes_eq name other then Some k else None) → count ≡ k + 1 → name ≡ own
+    → first_of after (definition_from count rest other) ≡ first_of before (if bytes_eq own other then Some k else definition_from (suc k) rest other)
+defined before after k count name own other rest e c same =
     ap (λ x. first_of x (definition_from count rest other)) e
     ∙ nested before (bytes_eq name other) k (definition_from count rest other)
     ∙ ap (λ n. first_of before (if bytes_eq name other then Some k else definition_from n rest other)) (c ∙ one_more k)
+    ∙ ap (λ n. first_of before (if bytes_eq n other then Some k else definition_from (suc k) rest other)) same
+
+by_declaration : (t : Option ℕ) (d : Declaration) (k : ℕ) (rest : List Heading) (name : List ℕ)
+    → first_of t (definition_from k rest name) ≡ first_of t (definition_from k (headings_in (external.Declared d) ++ rest) name)
+by_declaration t (declaration.Objects at of items) k rest name = refl
+by_declaration t (declaration.Function at gives n ps) k rest name = refl
 
 -- a declaration defines nothing
-pub declares : (t : Option ℕ) (d : Declaration) (k : ℕ) (rest : List Heading) (name : List ℕ)
-    → first_of t (definition_from k rest name) ≡ first_of t (definition_from k (headings_in (external.Declared d) ++ rest) name)
-declares t (declaration.Objects at of items) k rest name = refl
-declares t (declaration.Function at gives n ps) k rest name = refl
+pub declares : (t : Option ℕ) (part : External) (d : Declaration) (k : ℕ) (rest : List Heading) (name : List ℕ) → part ≡ external.Declared d
+    → first_of t (definition_from k rest name) ≡ first_of t (definition_from k (headings_in part ++ rest) name)
+declares t part d k rest name is = by_declaration t d k rest name ∙ ap (λ x. first_of t (definition_from k (headings_in x ++ rest) name)) (sym is)

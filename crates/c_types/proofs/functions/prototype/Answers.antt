@@ -2,7 +2,7 @@ use Rattle.std.proofs.Common.{◌≡◌, ap, ◌∙◌, take}
 use Rattle.c_typing.specs.Functions.{parameter_list}
 use Rattle.c_typing.specs.Program as spec
 use Rattle.c_names.specs.Known.{entries_of}
-use Rattle.c_functions.proofs.Params.{fits, left_entries}
+use Rattle.c_functions.proofs.Behind.{fits, left_entries}
 use Rattle.c_types.proofs.functions.prototype.Goals as goal
 
 pub leave-requires : goal.leave-requires

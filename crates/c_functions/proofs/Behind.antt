@@ -1,5 +1,5 @@
 -- Parameters stand behind the names of the file, which are left as they were.
-use Rattle.std.proofs.Common.{◌≡◌, ◌≤◌, ◌+◌, ℕ, List, [], ◌∷◌, ◌++◌, length, take, length-append, Option, Some, None, refl, sym, ap, ◌∙◌, subst, arith}
+use Rattle.std.proofs.Common.{◌≡◌, ◌≤◌, ◌+◌, ℕ, List, [], ◌∷◌, length, take, length-append, Option, Some, None, refl, ap, ◌∙◌, arith}
 use Rattle.c_tree.specs.declared.syntax.Identifier.{Identifier}
 use Rattle.c_tree.specs.declared.syntax.Parameter.{Parameter}
 use Rattle.c_typing.specs.Scopes.{Entry}

@@ -1,30 +1,17 @@
 -- One more of a list that is gone through: what was gathered, and what comes of the rest, is all.
-use Rattle.std.proofs.Common.{◌≡◌, ℕ, Bool, true, false, ◌||◌, ◌&&◌, ◌+◌, ◌<◌, suc, zero, length, Option, Some, None, List, [], ◌∷◌, ◌++◌, map, refl, sym, ap, ◌∙◌, slice_get, slice_set, arith}
+use Rattle.std.proofs.Common.{◌≡◌, ℕ, Bool, true, false, ◌||◌, Option, List, [], ◌∷◌, ◌++◌, map, refl, sym, ap, ◌∙◌}
 use mathlib.Core.List.{append_assoc}
-use Rattle.std.proofs.lemmas.Option.{none-some, slice_get_within}
-use Rattle.c_tree.specs.declared.types.CType.{CType}
-use Rattle.c_tree.specs.declared.syntax.Expr.{Expr}
-use Rattle.c_tree.specs.declared.syntax.Item.{Item}
 use Rattle.c_tree.specs.declared.syntax.Parameter.{Parameter}
 use Rattle.c_tree.specs.declared.syntax.External.{External}
-use Rattle.c_tree.specs.declared.typed.Static.{Static}
-use Rattle.c_tree.specs.declared.typed.Function.{Function}
 use Rattle.c_typing.specs.declared.names.Fault.{Fault}
-use Rattle.c_typing.specs.declared.names.Extent.{Extent}
 use Rattle.c_typing.specs.declared.names.Signature.{Signature}
-use Rattle.c_typing.specs.Faults.{Faults, notes, ◌also◌}
-use Rattle.c_typing.specs.Expressions.{Judged, broken_if}
+use Rattle.c_typing.specs.Faults.{notes}
 use Rattle.c_typing.specs.Functions.{Heading, headings, headings_in}
-use Rattle.c_typing.specs.Statements as st
 use Rattle.c_typing.specs.Program as spec
-use Rattle.c_scopes.proofs.Steps.{joined_assoc}
 
 map_append : {A B : Type 0} (f : A → B) (xs ys : List A) → map f (xs ++ ys) ≡ map f xs ++ map f ys
 map_append f [] ys = refl
 map_append f (x ∷ xs) ys = ap (λ zs. f x ∷ zs) (map_append f xs ys)
-
-one_more : (n : ℕ) → n + 1 ≡ suc n
-one_more n = omega arith
 
 -- ---- a map over a list
 pub map_step : {A B : Type 0} (f : A → B) (d : List A) (x : A) (rest : List A) → d ≡ x ∷ rest → (old new whole : List B) → old ++ map f d ≡ whole → new ≡ old ++ f x ∷ [] → new ++ map f rest ≡ whole

@@ -1,4 +1,4 @@
-use Rattle.std.proofs.Common.{◌+◌, ℕ, List, drop, sym, ap, ◌∙◌}
+use Rattle.std.proofs.Common.{◌+◌, List, drop, sym, ap, ◌∙◌}
 use Rattle.c_tree.specs.declared.syntax.External.{External}
 use Rattle.c_typing.specs.Functions.{Heading, headings, definition_from}
 use Rattle.c_scopes.proofs.Steps.{next_item, drop_end}

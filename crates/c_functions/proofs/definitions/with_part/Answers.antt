@@ -8,7 +8,7 @@ use Rattle.c_functions.proofs.definitions.with_part.Goals as goal
 pub returns-in_ok-more-in-Defined : goal.returns-in_ok-more-in-Defined
 returns-in_ok-more-in-Defined c = λ rest name.
     defined (number_at c.args.known.table name) (number_at c.in_ok-more-in-Defined.more.table name) c.args.known.count c.in_ok-more-in-Defined.more.count _ _ name rest
-        (c.in_ok-more-in-Defined.ensures.table name) c.in_ok-more-in-Defined.ensures.count c.as_slice.ensures
+    (c.in_ok-more-in-Defined.ensures.table name) c.in_ok-more-in-Defined.ensures.count c.as_slice.ensures
     ∙ ap (λ (x : External). first_of (number_at c.args.known.table name) (definition_from c.args.known.count (headings_in x ++ rest) name)) (sym c.in-Defined.is)
 
 pub returns-in-Declared : goal.returns-in-Declared

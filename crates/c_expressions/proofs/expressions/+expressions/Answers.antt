@@ -1,4 +1,4 @@
-use Rattle.std.proofs.Common.{◌+◌, ap, sym, ◌∙◌, option_copied}
+use Rattle.std.proofs.Common.{◌+◌, ap, ◌∙◌, option_copied}
 use Rattle.c_typing.specs.Expressions as spec
 use Rattle.c_expressions.specs.Seen.{setting_of}
 use Rattle.c_expressions.proofs.Arguments.{next_item, trees_step, sound_step, told_step}

@@ -1,4 +1,4 @@
-//! The front end of C by example: the tokens, the tree or the refusal of sources, and the sizes of typed trees, each worked out by
+//! The front end of C by example: the tokens, the tree, the typing or the refusal of sources, and the sizes of typed trees, each worked out by
 //! hand.
 #![tactic(auto)]
 
@@ -18,3 +18,5 @@ mod printed;
 mod refusals;
 #[cfg(test)]
 mod trees;
+#[cfg(test)]
+mod typing;

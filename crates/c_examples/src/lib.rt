@@ -1,4 +1,4 @@
-//! The front end of C by example: the tokens, the tree or the refusal of sources, and the sizes of typed trees, each worked out by
+//! The front end of C by example: the tokens, the tree, the typing or the refusal of sources, and the sizes of typed trees, each worked out by
 //! hand.
 //!
 //! Tests are proved, so their form decides what they cost. A table is a constant of rows that are plain literals; the type of its
@@ -29,3 +29,5 @@ mod rows;
 mod sources;
 #[cfg(test)]
 mod trees;
+#[cfg(test)]
+mod typing;

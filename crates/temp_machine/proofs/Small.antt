@@ -1,7 +1,7 @@
 -- What the temporary machine does by blocks, it does transfer by transfer.
 use Rattle.std.proofs.Common.{◌≡◌, ℕ, zero, suc, ◌+◌, ◌≤◌, List, [], ◌∷◌, Option, Some, None, Result, Ok, Err, refl, sym, ap, subst, ◌∙◌, arith}
 use Rattle.std.specs.Prelude.{slice_get, Bool, true, false}
-use Rattle.behaviour.specs.Behaviour.{Behaviour, Running, Ended, Failed, IsPrefix, Wild as WildRun}
+use Rattle.behaviour.specs.Behaviour.{Behaviour, Running, Ended, Failed, IsPrefix}
 use Rattle.behaviour.specs.Run.{NeverFails, Same, Reach, both_run, both_end}
 use Rattle.behaviour.specs.Steps.{Move as Step, Goes, Stops, Fails, Machine, OnlyPrints, after, run_by, run, printed_after}
 use Rattle.behaviour.proofs.Prefix.{prefix_refl, prefix_append, prefix_trans}
@@ -11,10 +11,10 @@ use Rattle.rtl_tree.specs.Moves.{Move}
 use Rattle.rtl_effect.specs.Views.{Stop, View}
 use Rattle.rtl_effect.specs.Effects.{Done, effect}
 use Rattle.rtl_norm_value.specs.Effect.{with_normal_jump}
-use Rattle.temp_machine.specs.Routines.{Exit, Falls, Jumps, Branches, Calls, Returns, BasicBlock, Routine, Image, Target}
-use Rattle.temp_machine.specs.Machine.{State, Waiting, printed_with, unless_halted, made, body_made, ended, callee_of, view_in, state_with, next_block, fits_stack, if_it_fits, within_stack, entered, returned, waiting, called, exit_made, block_made, step, printed_in, routine_of, begin, temporary_run}
+use Rattle.temp_machine.specs.Routines.{Exit, Falls, Jumps, Branches, Calls, Returns, BasicBlock, Image, Target}
+use Rattle.temp_machine.specs.Machine.{State, Waiting, printed_with, unless_halted, made, body_made, ended, callee_of, view_in, fits_stack, if_it_fits, entered, returned, waiting, called, exit_made, block_made, step, printed_in, routine_of, begin}
 use Rattle.temp_machine.specs.Live.{Item, Transfer, End, item_in, item_of, item_at}
-use Rattle.temp_machine.specs.Small.{Point, printed_at, first_point, entering, tested_at, behind, item_made, small_step, small_machine, small_run}
+use Rattle.temp_machine.specs.Small.{Point, printed_at, first_point, entering, tested_at, item_made, small_step, small_machine}
 use Rattle.temp_machine.specs.Laws.{TemporaryRunIsRun, BlocksAreSmall}
 
 -- what is printed only grows
@@ -75,7 +75,6 @@ module _ (t : Target) (p : Image) where
   pub only_blocks : OnlyPrints (step t p) printed_in
   only_blocks = record { at = λ s. fits_grows printed_in (fits_stack t p s) s.printed _ (block_grows (slice_get (routine_of t p s.top).blocks s.top.block) s) }
 
-
   entering_grows : (out : List ℕ) (x : Step State) → Grows out x → IsPrefix out (printed_after printed_at (entering t p x))
   entering_grows out (Goes s) g = g
   entering_grows out (Stops o status) g = g
@@ -92,7 +91,7 @@ module _ (t : Target) (p : Image) where
 
   pub only_small : OnlyPrints (small_step t p) printed_at
   only_small = record {
-    at = λ c. tested_grows c.at c.state c.printed _ (item_grows (item_at (routine_of t p c.state.top) (record { block = c.state.top.block; at = c.at })) c)
+    at = λ c. tested_grows c.at c.state c.printed _ (item_grows (item_at (routine_of t p c.state.top) (record { block = c.state.top.block; at = c.at })) c);
   }
 
   abbrev M : Machine

@@ -1,13 +1,12 @@
 -- The cells that a transfer reads and sets, and what a temporary stands in.
-use Rattle.std.specs.Prelude.{◌≡◌, ◌<◌, ℕ, ◌==◌, ◌||◌, Bool, true, false, is_some, List, [], ◌∷◌, Contains}
+use Rattle.std.specs.Prelude.{ℕ, ◌||◌, Bool, true, false, List}
 use Rattle.std.specs.List.{list_any}
 use Rattle.rtl_tree.specs.declared.cells.Cell.{Cell}
-use Rattle.rtl_tree.specs.declared.cells.Cell.TheVariants.{Hard, Temp, Flag, Pc, Input, Output, Halt, Hole}
-use Rattle.rtl_tree.specs.declared.expressions.BinOp.{BinOp}
-use Rattle.rtl_tree.specs.Trees.{Tree, Number, Symbol, CodeLabel, Read, Load, Unary, Binary, NoPair, AnyNumber, AnyName}
+use Rattle.rtl_tree.specs.declared.cells.Cell.TheVariants.{Hard, Temp, Flag, Input}
+use Rattle.rtl_tree.specs.Trees.{Tree, Read, Load, Unary, Binary}
 use Rattle.rtl_tree.specs.Moves.{Goal, ToCell, ToMemory, Move}
 use Rattle.rtl_tree.specs.Same.{same_cell}
-use Rattle.rtl_effect.specs.Effects.{assigned, takes}
+use Rattle.rtl_effect.specs.Effects.{takes}
 use Rattle.temp_machine.specs.Routines.{Routine, block_transfers}
 
 -- a cell of a tree has a property

@@ -1,5 +1,5 @@
 -- Where the flow goes in a routine: places, successors and loops.
-use Rattle.std.specs.Prelude.{◌≡◌, ◌≢◌, ◌↔◌, ◌⊎◌, ℕ, suc, ◌+◌, ◌<◌, ◌≤◌, List, [], ◌∷◌, length, slice_get, Option, Some, None, Contains}
+use Rattle.std.specs.Prelude.{◌≡◌, ◌⊎◌, ℕ, suc, ◌<◌, ◌≤◌, List, [], ◌∷◌, length, slice_get, Option, Some, None, Contains}
 use Rattle.rtl_tree.specs.declared.cells.Cell.TheVariants.{Pc}
 use Rattle.rtl_tree.specs.declared.cells.Lab.TheVariants.{Block}
 use Rattle.rtl_tree.specs.declared.expressions.BinOp.TheVariants.{When}
@@ -7,7 +7,7 @@ use Rattle.rtl_tree.specs.Trees.{Tree, CodeLabel, Binary}
 use Rattle.rtl_tree.specs.Moves.{Move}
 use Rattle.rtl_effect.specs.Effects.{assigned}
 use Rattle.rtl_norm_value.specs.Effect.{with_normal_jump}
-use Rattle.temp_machine.specs.Routines.{Exit, Falls, Jumps, Branches, Calls, Returns, BasicBlock, Routine, block_transfers}
+use Rattle.temp_machine.specs.Routines.{Exit, Falls, Jumps, Branches, Calls, Returns, BasicBlock, Routine}
 use Rattle.temp_machine.specs.Machine.{position}
 
 -- the label to which a value of the program counter goes, be it on a condition

@@ -7,4 +7,5 @@ pub mod Machine
 pub mod Routines
 pub mod Small
 pub mod Tidy
+pub mod Units
 pub mod Whole

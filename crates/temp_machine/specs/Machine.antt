@@ -1,5 +1,5 @@
 -- The temporary machine: it runs code in which temporaries stand in the place of registers, a block a step.
-use Rattle.std.specs.Prelude.{ℕ, suc, ◌+◌, ◌*◌, ◌-◌, ◌%◌, if◌then◌else◌, nat_lt, nat_le, ◌==◌, Bool, true, false, ◌&&◌, ◌||◌, not, List, [], ◌∷◌, ◌++◌, length, map, slice_get, slice_index, Option, Some, None, Result, Ok, Err}
+use Rattle.std.specs.Prelude.{ℕ, suc, ◌+◌, ◌*◌, ◌-◌, ◌%◌, if◌then◌else◌, nat_lt, nat_le, ◌==◌, Bool, true, false, ◌&&◌, List, [], ◌∷◌, ◌++◌, length, slice_get, slice_index, Option, Some, None, Result, Ok, Err}
 use Rattle.std.specs.List.{list_any}
 use Rattle.rtl_tree.specs.declared.cells.Cell.{Cell}
 use Rattle.rtl_tree.specs.declared.cells.Cell.TheVariants.{Hard, Temp, Pc, Input}
@@ -10,7 +10,6 @@ use Rattle.rtl_tree.specs.Moves.{Move}
 use Rattle.behaviour.specs.Behaviour.{Wild as WildRun}
 use Rattle.behaviour.specs.Run.{Run}
 use Rattle.behaviour.specs.Steps.{Move as Step, Goes, Stops, Fails, Machine, run}
-use Rattle.rtl_norm.specs.Normal.{norm}
 use Rattle.rtl_effect.specs.Views.{Stop, Mark, Gone, View}
 use Rattle.rtl_effect.specs.Effects.{Done, effect, assigned, next_in}
 use Rattle.rtl_norm_value.specs.Effect.{with_normal_jump}

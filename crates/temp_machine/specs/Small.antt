@@ -1,12 +1,12 @@
 -- The temporary machine a transfer a step, for proofs that go transfer by transfer.
 use Rattle.std.specs.Prelude.{ℕ, zero, suc, List, Option, Some, None}
 use Rattle.behaviour.specs.Behaviour.{Wild as WildRun}
-use Rattle.behaviour.specs.Run.{Run, NeverFails, Same}
+use Rattle.behaviour.specs.Run.{Run}
 use Rattle.behaviour.specs.Steps.{Move as Step, Goes, Stops, Fails, Machine, run}
 use Rattle.rtl_effect.specs.Views.{View}
 use Rattle.rtl_effect.specs.Effects.{effect}
 use Rattle.temp_machine.specs.Routines.{Image, Target}
-use Rattle.temp_machine.specs.Machine.{State, view_in, made, exit_made, fits_stack, if_it_fits, begin, temporary_run, routine_of}
+use Rattle.temp_machine.specs.Machine.{State, view_in, made, exit_made, fits_stack, if_it_fits, begin, routine_of}
 use Rattle.temp_machine.specs.Live.{Item, Transfer, End, item_at}
 
 -- a point inside a block: the state at the block's begin, how many transfers were made, and what they changed and printed

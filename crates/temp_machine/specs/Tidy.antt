@@ -1,11 +1,10 @@
 -- Tidy code, and how much room code takes.
-use Rattle.std.specs.Prelude.{◌≡◌, ◌≢◌, ℕ, suc, ◌+◌, ◌*◌, max, Bool, true, false, ◌&&◌, ◌||◌, ◌==◌, not, if◌then◌else◌, IsTrue, List, [], ◌∷◌, ◌++◌, length, map, sum, slice_get, Option, Some, None}
+use Rattle.std.specs.Prelude.{◌≡◌, ℕ, suc, ◌+◌, ◌*◌, max, Bool, true, false, ◌==◌, if◌then◌else◌, List, [], ◌∷◌, ◌++◌, length, map, sum, Option, Some, None}
 use Rattle.std.specs.List.{list_any}
-use Rattle.rtl_tree.specs.declared.cells.Cell.{Cell}
 use Rattle.rtl_tree.specs.declared.cells.Cell.TheVariants.{Temp, Flag}
 use Rattle.rtl_tree.specs.Trees.{Tree, Read, Load, Unary, Binary}
 use Rattle.rtl_tree.specs.Moves.{Goal, ToCell, ToMemory, Move}
-use Rattle.temp_machine.specs.Routines.{Exit, Falls, Jumps, Branches, Calls, Returns, BasicBlock, Routine, Target, block_transfers}
+use Rattle.temp_machine.specs.Routines.{Exit, Jumps, Branches, Calls, Returns, BasicBlock, Routine, Target, block_transfers}
 use Rattle.temp_machine.specs.Cells.{some_read, some_set, is_temporary, is_hard_among, uses, has_temporaries}
 use Rattle.temp_machine.specs.Live.{Place, Item, Transfer, End, item_at, IsLive, IsLiveAfter}
 
@@ -78,12 +77,12 @@ transfer_count r = length (transfers_of r.blocks)
 abbrev pub room : Routine → ℕ
 room r = sum (map room_of (transfers_of r.blocks))
 
-abbrev pub is_return : Exit → ℕ
-is_return Returns = 1
-is_return _ = 0
+abbrev pub one_if_return : Exit → ℕ
+one_if_return Returns = 1
+one_if_return _ = 0
 
 abbrev pub return_count : Routine → ℕ
-return_count r = sum (map (λ b. is_return b.exit) r.blocks)
+return_count r = sum (map (λ b. one_if_return b.exit) r.blocks)
 
 -- beside its room a function needs entries and returns, counted once for the function and once for each return
 abbrev pub padded_room : Target → Routine → ℕ

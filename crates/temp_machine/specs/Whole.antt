@@ -1,15 +1,15 @@
 -- What holds of each routine that a pass is given or gives.
-use Rattle.std.specs.Prelude.{◌≡◌, ◌≢◌, ◌⊎◌, ℕ, ◌+◌, ◌-◌, ◌*◌, ◌/◌, ◌%◌, ◌^◌, ◌<◌, ◌≤◌, false, true, List, length, map, slice_get, Option, Some, AllPairs, Contains}
+use Rattle.std.specs.Prelude.{◌≡◌, ◌≢◌, ◌⊎◌, ℕ, ◌+◌, ◌-◌, ◌*◌, ◌/◌, ◌%◌, ◌^◌, ◌<◌, ◌≤◌, false, true, List, length, map, slice_get, Some, AllPairs, Contains}
 use Rattle.rtl_tree.specs.declared.cells.Cell.TheVariants.{Hard, Temp, Pc}
 use Rattle.rtl_tree.specs.declared.cells.Lab.TheVariants.{Block}
 use Rattle.rtl_tree.specs.Trees.{CodeLabel}
 use Rattle.rtl_tree.specs.Moves.{Move}
 use Rattle.rtl_effect.specs.Effects.{assigned}
 use Rattle.rtl_norm_value.specs.Effect.{with_normal_jump}
-use Rattle.temp_machine.specs.Routines.{Exit, Jumps, Branches, Calls, Returns, BasicBlock, Routine, Target, word_bytes}
+use Rattle.temp_machine.specs.Routines.{Exit, Jumps, Branches, Returns, BasicBlock, Routine, Target, word_bytes}
 use Rattle.temp_machine.specs.Cells.{sets, uses}
 use Rattle.rtl_tree.specs.Same.{same_cell}
-use Rattle.temp_machine.specs.Live.{Place, Item, Transfer, End, item_at}
+use Rattle.temp_machine.specs.Live.{Place, Transfer, End, item_at}
 use Rattle.temp_machine.specs.Flow.{label_of}
 use Rattle.temp_machine.specs.Tidy.{transfer_count}
 
@@ -22,7 +22,7 @@ abbrev pub IsFinal : Exit → Type 0
 IsFinal e = ((ms : List Move) × (e ≡ Jumps ms)) ⊎ (e ≡ Returns)
 
 -- it has a block, and blocks of different labels; jumps and branches go to labels of its blocks; nothing falls out of its last block; and each
--- of its temporaries has a home
+-- of its temporaries has a home. (Of a call's transfer this says nothing but its callee: that it is the machine's calling transfer is a condition by the description's rows.)
 pub record IsWhole (w : ℕ) (r : Routine) : Type 0 where
   pub has_block : 0 < length r.blocks
   pub different : AllPairs (λ b c. b.label ≢ c.label) r.blocks

@@ -1,0 +1,4 @@
+pub mod Steps
+pub mod Answering
+pub mod Bodies
+pub mod Wholes

@@ -1,0 +1,4 @@
+pub mod Reading
+pub mod Storing
+pub mod Making
+pub mod Turning

@@ -1,9 +1,9 @@
 //! How deep a source may nest.
 
-use crate::refusals::refusal;
-use crate::trees::{joined, shown};
-use std::alloc::{AllocError, Global};
-use std::test::Fail;
+use crate::page::Page;
+use crate::rows::{Row, check};
+use crate::sources::{told, tree_of};
+use std::alloc::Global;
 
 struct Nested {
     before: &'static [u8],
@@ -12,21 +12,36 @@ struct Nested {
     middle: &'static [u8],
     close: &'static [u8],
     after: &'static [u8],
-    column: Option<usize>,
+    column: Option<u32>,
 }
 
 impl Nested {
-    fn source(&self, alloc: Global) -> Result<Vec<u8>, AllocError> {
-        let mut text = joined(alloc, &[self.before])?;
+    fn print(&self, page: &mut Page) {
+        page.put(self.before);
         for _ in 0..self.count {
-            text.extend_from_slice(self.open)?;
+            page.put(self.open);
         }
-        text.extend_from_slice(self.middle)?;
+        page.put(self.middle);
         for _ in 0..self.count {
-            text.extend_from_slice(self.close)?;
+            page.put(self.close);
         }
-        text.extend_from_slice(self.after)?;
-        Ok(text)
+        page.put(self.after);
+    }
+}
+
+impl Row for Nested {
+    /// The source has a tree, or is refused at the token that is too deep.
+    fn holds(&self, alloc: Global) -> bool {
+        let mut page = Page::new(alloc);
+        self.print(&mut page);
+        let expected = match self.column {
+            Some(column) => Some((1, column, 6)),
+            None => None,
+        };
+        match page.text() {
+            Some(source) => told(&tree_of(alloc, source)) == expected,
+            None => false,
+        }
     }
 }
 
@@ -278,13 +293,6 @@ const NESTED: [Nested; 27] = [
 ];
 
 #[test]
-fn nesting_ends_at_200(rt: HostRuntime) -> Result<(), Fail> {
-    let alloc = rt.alloc();
-    for nested in &NESTED {
-        let source = nested.source(alloc)?;
-        let told = refusal(alloc, &source);
-        assert_eq!(rt; told, nested.column.map(|column| (column, 6)));
-        assert_eq!(rt; shown(alloc, &source)?.is_empty(), nested.column.is_some());
-    }
-    Ok(())
+fn nesting_ends_at_200(rt: HostRuntime) {
+    check(&rt, rt.alloc(), "nested", &NESTED);
 }

@@ -1,21 +1,13 @@
 //! Trees as text, with brackets round each operation: `(a + (b * c))`. A parenthesis of the source
 //! is printed as `<a>`, a statement within another as `[a;]`, and a number that isn't decimal with `#`.
 
+use crate::page::Page;
 use c_tree::syntax::{
     Arithmetic, AssignOperator, BinaryOperator, Declaration, Expr, External, Initialiser, Item,
     Parameter, Parameters, Return, Size, Start, Statement, StepOperator, Syntax, TypeWords,
     UnaryOperator,
 };
-use std::alloc::{AllocError, Global};
-
-type Printed = Result<(), AllocError>;
-
-/// A text that is printed to.
-#[derive(Drop)]
-pub struct Page {
-    alloc: Global,
-    bytes: Vec<u8>,
-}
+use std::alloc::Global;
 
 fn binary(operator: BinaryOperator) -> &'static [u8] {
     match operator {
@@ -90,105 +82,90 @@ fn words(words: TypeWords) -> &'static [u8] {
 }
 
 impl Page {
-    fn put(&mut self, bytes: &[u8]) -> Printed {
-        self.bytes.extend_from_slice(bytes)
-    }
-
-    fn number(&mut self, value: u64) -> Printed {
-        let text = format!(in self.alloc; "{value}")?;
-        self.put(text.as_bytes())
-    }
-
-    fn character(&mut self, value: i32) -> Printed {
-        let text = format!(in self.alloc; "'{value}'")?;
-        self.put(text.as_bytes())
-    }
-
-    fn constant(&mut self, value: u64, decimal: bool, unsigned: bool) -> Printed {
-        self.number(value)?;
+    fn constant(&mut self, value: u64, decimal: bool, unsigned: bool) {
+        self.number(value);
         if !decimal {
-            self.put(b"#")?;
+            self.put(b"#");
         }
         if unsigned {
-            self.put(b"u")?;
+            self.put(b"u");
         }
-        Ok(())
     }
 
-    fn expr(&mut self, e: &Expr) -> Printed {
+    fn expr(&mut self, e: &Expr) {
         match e {
             Expr::Comma(_, a, b) => {
-                self.put(b"(")?;
-                self.expr(a.get())?;
-                self.put(b" , ")?;
-                self.expr(b.get())?;
-                self.put(b")")
+                self.put(b"(");
+                self.expr(a.get());
+                self.put(b" , ");
+                self.expr(b.get());
+                self.put(b")");
             }
             Expr::Assign(_, a, o, b) => {
-                self.put(b"(")?;
-                self.expr(a.get())?;
-                self.put(assign(*o))?;
-                self.expr(b.get())?;
-                self.put(b")")
+                self.put(b"(");
+                self.expr(a.get());
+                self.put(assign(*o));
+                self.expr(b.get());
+                self.put(b")");
             }
             Expr::Binary(_, a, o, b) => {
-                self.put(b"(")?;
-                self.expr(a.get())?;
-                self.put(binary(*o))?;
-                self.expr(b.get())?;
-                self.put(b")")
+                self.put(b"(");
+                self.expr(a.get());
+                self.put(binary(*o));
+                self.expr(b.get());
+                self.put(b")");
             }
             Expr::Conditional(_, a, b, c) => {
-                self.put(b"(")?;
-                self.expr(a.get())?;
-                self.put(b" ? ")?;
-                self.expr(b.get())?;
-                self.put(b" : ")?;
-                self.expr(c.get())?;
-                self.put(b")")
+                self.put(b"(");
+                self.expr(a.get());
+                self.put(b" ? ");
+                self.expr(b.get());
+                self.put(b" : ");
+                self.expr(c.get());
+                self.put(b")");
             }
             Expr::Cast(_, w, e) => {
-                self.put(b"((")?;
-                self.put(words(*w))?;
-                self.put(b")")?;
-                self.expr(e.get())?;
-                self.put(b")")
+                self.put(b"((");
+                self.put(words(*w));
+                self.put(b")");
+                self.expr(e.get());
+                self.put(b")");
             }
             Expr::Unary(_, o, e) => {
-                self.put(b"(")?;
-                self.put(unary(*o))?;
-                self.expr(e.get())?;
-                self.put(b")")
+                self.put(b"(");
+                self.put(unary(*o));
+                self.expr(e.get());
+                self.put(b")");
             }
             Expr::Before(_, o, e) => {
-                self.put(b"(")?;
-                self.put(step(*o))?;
-                self.expr(e.get())?;
-                self.put(b")")
+                self.put(b"(");
+                self.put(step(*o));
+                self.expr(e.get());
+                self.put(b")");
             }
             Expr::After(_, e, o) => {
-                self.put(b"(")?;
-                self.expr(e.get())?;
-                self.put(step(*o))?;
-                self.put(b")")
+                self.put(b"(");
+                self.expr(e.get());
+                self.put(step(*o));
+                self.put(b")");
             }
             Expr::Name(_, n) => self.put(n.as_slice()),
             Expr::Element(_, n, e) => {
-                self.put(n.as_slice())?;
-                self.put(b"[")?;
-                self.expr(e.get())?;
-                self.put(b"]")
+                self.put(n.as_slice());
+                self.put(b"[");
+                self.expr(e.get());
+                self.put(b"]");
             }
             Expr::Call(_, n, es) => {
-                self.put(n.as_slice())?;
-                self.put(b"(")?;
+                self.put(n.as_slice());
+                self.put(b"(");
                 let mut first = true;
                 for e in es.as_slice() {
-                    self.put(if first { b"" } else { b", " })?;
+                    self.put(if first { b"" } else { b", " });
                     first = false;
-                    self.expr(e)?;
+                    self.expr(e);
                 }
-                self.put(b")")
+                self.put(b")");
             }
             Expr::Number {
                 value,
@@ -198,226 +175,225 @@ impl Page {
             } => self.constant(*value, *decimal, *unsigned),
             Expr::Character(_, v) => self.character(*v),
             Expr::Paren(_, e) => {
-                self.put(b"<")?;
-                self.expr(e.get())?;
-                self.put(b">")
+                self.put(b"<");
+                self.expr(e.get());
+                self.put(b">");
             }
         }
     }
 
-    fn list(&mut self, es: &[Expr]) -> Printed {
+    fn list(&mut self, es: &[Expr]) {
         let mut first = true;
         for e in es {
-            self.put(if first { b"" } else { b", " })?;
+            self.put(if first { b"" } else { b", " });
             first = false;
-            self.expr(e)?;
+            self.expr(e);
         }
-        Ok(())
     }
 
-    fn size(&mut self, size: &Size) -> Printed {
+    fn size(&mut self, size: &Size) {
         match size {
-            Size::Scalar => Ok(()),
+            Size::Scalar => {}
             Size::Absent => self.put(b"[]"),
             Size::Given(e) => {
-                self.put(b"[")?;
-                self.expr(e)?;
-                self.put(b"]")
+                self.put(b"[");
+                self.expr(e);
+                self.put(b"]");
             }
         }
     }
 
-    fn initialiser(&mut self, initialiser: &Initialiser) -> Printed {
+    fn initialiser(&mut self, initialiser: &Initialiser) {
         match initialiser {
-            Initialiser::Absent => Ok(()),
+            Initialiser::Absent => {}
             Initialiser::Value(e) => {
-                self.put(b" = ")?;
-                self.expr(e)
+                self.put(b" = ");
+                self.expr(e);
             }
             Initialiser::List(_, es, comma) => {
-                self.put(b" = {")?;
-                self.list(es.as_slice())?;
-                self.put(if *comma { b",}" } else { b"}" })
+                self.put(b" = {");
+                self.list(es.as_slice());
+                self.put(if *comma { b",}" } else { b"}" });
             }
         }
     }
 
-    fn item(&mut self, item: &Item) -> Printed {
-        self.put(item.name.bytes.as_slice())?;
-        self.size(&item.size)?;
-        self.initialiser(&item.initialiser)
+    fn item(&mut self, item: &Item) {
+        self.put(item.name.bytes.as_slice());
+        self.size(&item.size);
+        self.initialiser(&item.initialiser);
     }
 
-    fn items(&mut self, items: &[Item]) -> Printed {
+    fn items(&mut self, items: &[Item]) {
         let mut first = true;
         for item in items {
-            self.put(if first { b" " } else { b", " })?;
+            self.put(if first { b" " } else { b", " });
             first = false;
-            self.item(item)?;
+            self.item(item);
         }
-        self.put(b";")
+        self.put(b";");
     }
 
-    fn parameter(&mut self, parameter: &Parameter) -> Printed {
-        self.put(words(parameter.words))?;
+    fn parameter(&mut self, parameter: &Parameter) {
+        self.put(words(parameter.words));
         match &parameter.name {
-            None => Ok(()),
+            None => {}
             Some(name) => {
-                self.put(b" ")?;
-                self.put(name.bytes.as_slice())
+                self.put(b" ");
+                self.put(name.bytes.as_slice());
             }
         }
     }
 
-    fn parameters(&mut self, parameters: &Parameters) -> Printed {
+    fn parameters(&mut self, parameters: &Parameters) {
         match parameters {
             Parameters::Empty => self.put(b"()"),
             Parameters::Void => self.put(b"(void)"),
             Parameters::List(list) => {
                 let mut first = true;
                 for parameter in list.as_slice() {
-                    self.put(if first { b"(" } else { b", " })?;
+                    self.put(if first { b"(" } else { b", " });
                     first = false;
-                    self.parameter(parameter)?;
+                    self.parameter(parameter);
                 }
-                self.put(b")")
+                self.put(b")");
             }
         }
     }
 
-    fn function(&mut self, gives: &Return, name: &[u8], parameters: &Parameters) -> Printed {
+    fn function(&mut self, gives: &Return, name: &[u8], parameters: &Parameters) {
         match gives {
-            Return::Void => self.put(b"void")?,
-            Return::Value(w) => self.put(words(*w))?,
+            Return::Void => self.put(b"void"),
+            Return::Value(w) => self.put(words(*w)),
         }
-        self.put(b" ")?;
-        self.put(name)?;
-        self.parameters(parameters)
+        self.put(b" ");
+        self.put(name);
+        self.parameters(parameters);
     }
 
-    fn declaration(&mut self, declaration: &Declaration) -> Printed {
+    fn declaration(&mut self, declaration: &Declaration) {
         match declaration {
             Declaration::Objects(_, w, items) => {
-                self.put(words(*w))?;
-                self.items(items.as_slice())
+                self.put(words(*w));
+                self.items(items.as_slice());
             }
             Declaration::Function(_, gives, name, parameters) => {
-                self.function(gives, name.bytes.as_slice(), parameters)?;
-                self.put(b";")
+                self.function(gives, name.bytes.as_slice(), parameters);
+                self.put(b";");
             }
         }
     }
 
-    fn optional(&mut self, e: &Option<Expr>) -> Printed {
+    fn optional(&mut self, e: &Option<Expr>) {
         match e {
-            None => Ok(()),
+            None => {}
             Some(e) => self.expr(e),
         }
     }
 
-    fn start(&mut self, start: &Start) -> Printed {
+    fn start(&mut self, start: &Start) {
         match start {
             Start::Absent => self.put(b";"),
             Start::Value(e) => {
-                self.expr(e)?;
-                self.put(b";")
+                self.expr(e);
+                self.put(b";");
             }
             Start::Declared(declaration) => self.declaration(declaration),
         }
     }
 
-    fn controlled(&mut self, word: &[u8], e: &Expr) -> Printed {
-        self.put(word)?;
-        self.put(b"(")?;
-        self.expr(e)?;
-        self.put(b")")
+    fn controlled(&mut self, word: &[u8], e: &Expr) {
+        self.put(word);
+        self.put(b"(");
+        self.expr(e);
+        self.put(b")");
     }
 
-    fn statement(&mut self, statement: &Statement) -> Printed {
+    fn statement(&mut self, statement: &Statement) {
         match statement {
             Statement::Block(_, statements) => {
-                self.put(b"{")?;
+                self.put(b"{");
                 for inner in statements.as_slice() {
-                    self.statement(inner)?;
+                    self.statement(inner);
                 }
-                self.put(b"}")
+                self.put(b"}");
             }
             Statement::Declared(declaration) => self.declaration(declaration),
             Statement::Evaluate(_, e) => {
-                self.optional(e)?;
-                self.put(b";")
+                self.optional(e);
+                self.put(b";");
             }
             Statement::If(_, e, then, other) => {
-                self.controlled(b"if", e)?;
-                self.put(b"[")?;
-                self.statement(then.get())?;
-                self.put(b"]")?;
+                self.controlled(b"if", e);
+                self.put(b"[");
+                self.statement(then.get());
+                self.put(b"]");
                 match other {
-                    None => Ok(()),
+                    None => {}
                     Some(other) => {
-                        self.put(b"else[")?;
-                        self.statement(other.get())?;
-                        self.put(b"]")
+                        self.put(b"else[");
+                        self.statement(other.get());
+                        self.put(b"]");
                     }
                 }
             }
             Statement::While(_, e, body) => {
-                self.controlled(b"while", e)?;
-                self.put(b"[")?;
-                self.statement(body.get())?;
-                self.put(b"]")
+                self.controlled(b"while", e);
+                self.put(b"[");
+                self.statement(body.get());
+                self.put(b"]");
             }
             Statement::DoWhile(_, body, e) => {
-                self.put(b"do[")?;
-                self.statement(body.get())?;
-                self.put(b"]")?;
-                self.controlled(b"while", e)?;
-                self.put(b";")
+                self.put(b"do[");
+                self.statement(body.get());
+                self.put(b"]");
+                self.controlled(b"while", e);
+                self.put(b";");
             }
             Statement::For(_, start, test, step, body) => {
-                self.put(b"for(")?;
-                self.start(start)?;
-                self.optional(test)?;
-                self.put(b";")?;
-                self.optional(step)?;
-                self.put(b")")?;
-                self.put(b"[")?;
-                self.statement(body.get())?;
-                self.put(b"]")
+                self.put(b"for(");
+                self.start(start);
+                self.optional(test);
+                self.put(b";");
+                self.optional(step);
+                self.put(b")");
+                self.put(b"[");
+                self.statement(body.get());
+                self.put(b"]");
             }
             Statement::Switch(_, e, statements) => {
-                self.controlled(b"switch", e)?;
-                self.put(b"{")?;
+                self.controlled(b"switch", e);
+                self.put(b"{");
                 for inner in statements.as_slice() {
-                    self.statement(inner)?;
+                    self.statement(inner);
                 }
-                self.put(b"}")
+                self.put(b"}");
             }
             Statement::Case(_, e, body) => {
-                self.put(b"case ")?;
-                self.expr(e)?;
-                self.put(b":")?;
-                self.put(b"[")?;
-                self.statement(body.get())?;
-                self.put(b"]")
+                self.put(b"case ");
+                self.expr(e);
+                self.put(b":");
+                self.put(b"[");
+                self.statement(body.get());
+                self.put(b"]");
             }
             Statement::Default(_, body) => {
-                self.put(b"default:")?;
-                self.put(b"[")?;
-                self.statement(body.get())?;
-                self.put(b"]")
+                self.put(b"default:");
+                self.put(b"[");
+                self.statement(body.get());
+                self.put(b"]");
             }
             Statement::Break(_) => self.put(b"break;"),
             Statement::Continue(_) => self.put(b"continue;"),
             Statement::Return(_, e) => {
-                self.put(b"return ")?;
-                self.optional(e)?;
-                self.put(b";")
+                self.put(b"return ");
+                self.optional(e);
+                self.put(b";");
             }
         }
     }
 
-    fn external(&mut self, external: &External) -> Printed {
+    fn external(&mut self, external: &External) {
         match external {
             External::Include(_) => self.put(b"#"),
             External::Declared(declaration) => self.declaration(declaration),
@@ -428,25 +404,22 @@ impl Page {
                 body,
                 ..
             } => {
-                self.function(gives, name.bytes.as_slice(), parameters)?;
-                self.put(b"{")?;
+                self.function(gives, name.bytes.as_slice(), parameters);
+                self.put(b"{");
                 for statement in body.as_slice() {
-                    self.statement(statement)?;
+                    self.statement(statement);
                 }
-                self.put(b"}")
+                self.put(b"}");
             }
         }
     }
 }
 
-/// A tree as text.
-pub fn printed(alloc: Global, tree: &Syntax) -> Result<Vec<u8>, AllocError> {
-    let mut page = Page {
-        alloc,
-        bytes: Vec::new(alloc),
-    };
+/// Whether a tree is printed as this text.
+pub fn is_printed(alloc: Global, tree: &Syntax, text: &[u8]) -> bool {
+    let mut page = Page::new(alloc);
     for part in tree.parts.as_slice() {
-        page.external(part)?;
+        page.external(part);
     }
-    Ok(page.bytes)
+    page.is(text)
 }

@@ -6,6 +6,7 @@ ghost use Rattle.rtl_spelling.specs.Spelling.{AreApart};
 mod rows;
 mod rules;
 mod substitution;
+mod table;
 mod texts;
 mod tokens;
 mod trees;

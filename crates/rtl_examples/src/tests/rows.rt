@@ -4,12 +4,12 @@ ghost use Rattle.std.specs.Prelude.{IfOk, [], ◌∷◌, ◌≡◌};
 ghost use Rattle.rtl_tree.specs.Trees.{AnyNumber};
 
 use super::no_names;
+use super::table::{Row, check};
 use rtl_simplify::normalise_effects;
-use rtl_text::{OpenHole, TextFault, read_holed};
-use rtl_tree::{Effects, Expr, same};
+use rtl_text::{OpenHole, read_holed};
+use rtl_tree::{Expr, same};
 use rtl_word::W16;
 use std::alloc::{AllocError, Global};
-use std::test::Fail;
 
 /// The hole `<n>` for a number.
 fn number_hole(alloc: Global) -> Result<Vec<OpenHole>, AllocError>
@@ -24,42 +24,57 @@ fn number_hole(alloc: Global) -> Result<Vec<OpenHole>, AllocError>
     Ok(holes)
 }
 
-/// The transfer that a row's text spells, and its normal form.
-fn row(alloc: Global, value: &str) -> Result<(Effects, Effects), TextFault> {
-    let text = format!(in alloc; "r[3] = {value}")?;
-    let names = no_names(alloc);
-    let holes = number_hole(alloc)?;
-    let spelled = read_holed::<W16>(alloc, text.as_bytes(), &names, &holes)?;
-    let mut normal = read_holed::<W16>(alloc, text.as_bytes(), &names, &holes)?;
-    normalise_effects::<W16>(&mut normal);
-    Ok((spelled, normal))
+/// Whether a text spells this tree as the value of its first assignment.
+fn is_value(alloc: Global, holes: &Vec<OpenHole>, e: &Expr, text: &str) -> bool {
+    match read_holed::<W16>(alloc, text.as_bytes(), &no_names(alloc), holes) {
+        Ok(transfer) => {
+            let first = &transfer.list[0];
+            same(e, &first.value)
+        }
+        Err(_) => false,
+    }
 }
 
 /// Whether the normal form of the one value is the other.
-fn becomes(alloc: Global, from: &str, to: &str) -> Result<bool, TextFault> {
-    let (_, normal) = row(alloc, from)?;
-    let (spelled, _) = row(alloc, to)?;
-    let (left, right) = (&normal.list[0], &spelled.list[0]);
-    Ok(same(&left.value, &right.value))
+fn becomes(alloc: Global, holes: &Vec<OpenHole>, from: &str, to: &str) -> bool
+    requires { holes.now.items ≡ record { name = 110 ∷ []; leaf = AnyNumber 0 } ∷ [] }
+{
+    let names = no_names(alloc);
+    match read_holed::<W16>(alloc, from.as_bytes(), &names, holes) {
+        Ok(mut transfer) => {
+            normalise_effects::<W16>(&mut transfer);
+            let first = &transfer.list[0];
+            is_value(alloc, holes, &first.value, to)
+        }
+        Err(_) => false,
+    }
 }
 
-const ROWS: [(&str, &str); 9] = [
-    ("(<n> + r[1])", "(r[1] + <n>)"),
-    ("(<n> & r[1])", "(r[1] & <n>)"),
-    ("(<n> ne r[1])", "(r[1] ne <n>)"),
-    ("(<n> ltu r[1])", "(r[1] gtu <n>)"),
-    ("(<n> ge r[1])", "(r[1] le <n>)"),
-    ("(<n> - r[1])", "(<n> - r[1])"),
-    ("(r[1] - <n>)", "(r[1] - <n>)"),
-    ("((r[1] + 4) + <n>)", "((r[1] + 4) + <n>)"),
-    ("(<n> + 4)", "(<n> + 4)"),
+/// A transfer with a number hole, and another with its normal form as the value.
+struct Normal(&'static str, &'static str);
+
+impl Row for Normal {
+    fn holds(&self, alloc: Global) -> bool {
+        match number_hole(alloc) {
+            Ok(holes) => becomes(alloc, &holes, self.0, self.1),
+            Err(_) => false,
+        }
+    }
+}
+
+const ROWS: [Normal; 9] = [
+    Normal("r[3] = (<n> + r[1])", "r[3] = (r[1] + <n>)"),
+    Normal("r[3] = (<n> & r[1])", "r[3] = (r[1] & <n>)"),
+    Normal("r[3] = (<n> ne r[1])", "r[3] = (r[1] ne <n>)"),
+    Normal("r[3] = (<n> ltu r[1])", "r[3] = (r[1] gtu <n>)"),
+    Normal("r[3] = (<n> ge r[1])", "r[3] = (r[1] le <n>)"),
+    Normal("r[3] = (<n> - r[1])", "r[3] = (<n> - r[1])"),
+    Normal("r[3] = (r[1] - <n>)", "r[3] = (r[1] - <n>)"),
+    Normal("r[3] = ((r[1] + 4) + <n>)", "r[3] = ((r[1] + 4) + <n>)"),
+    Normal("r[3] = (<n> + 4)", "r[3] = (<n> + 4)"),
 ];
 
 #[test]
-fn number_holes(rt: HostRuntime) -> Result<(), Fail> {
-    let alloc = rt.alloc();
-    for (from, to) in ROWS {
-        assert!(rt; becomes(alloc, from, to)?, "{from}");
-    }
-    Ok(())
+fn number_holes(rt: HostRuntime) {
+    check(&rt, rt.alloc(), "rows", &ROWS);
 }

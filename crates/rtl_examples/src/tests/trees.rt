@@ -1,137 +1,195 @@
 //! Small trees, sets and lists of names, with answers worked out by hand.
 
 use super::substitution::value;
-use rtl_text::TextFault;
+use super::table::{Row, check};
+use super::{no_names, one_name};
+use rtl_text::read_transfer;
 use rtl_tree::{
-    Assign, Cell, CellSet, Effects, Expr, Name, NameList, NoMemory, Place, UnOp, Width, alike,
-    copy, is_name, same, take, well_formed,
+    Cell, CellSet, Expr, NameList, Place, alike, copy, is_name, same, substitute, take, well_formed,
 };
-use rtl_word::Rel;
-use smallvec::SmallVec;
+use rtl_word::W16;
 use std::alloc::Global;
 use std::test::Fail;
 
 /// Two transfers, whether their values are equal, and whether they are alike.
-const PAIRS: [(&str, &str, bool, bool); 4] = [
-    ("r[3] = (r[1] + 2)", "r[3] = (r[1] + 2)", true, true),
-    ("r[3] = (r[1] + 2)", "r[3] = (2 + r[1])", false, true),
-    ("r[3] = (r[1] + 2)", "r[3] = (r[1] + 3)", false, false),
-    ("r[3] = (r[1] - 2)", "r[3] = (2 - r[1])", false, false),
+struct Pair(&'static str, &'static str, bool, bool);
+
+impl Pair {
+    fn is_so(&self, alloc: Global, left: &Expr) -> bool {
+        match value(alloc, self.1) {
+            Ok(right) => same(left, &right) == self.2 && alike(left, &right) == self.3,
+            Err(_) => false,
+        }
+    }
+}
+
+impl Row for Pair {
+    fn holds(&self, alloc: Global) -> bool {
+        match value(alloc, self.0) {
+            Ok(left) => self.is_so(alloc, &left),
+            Err(_) => false,
+        }
+    }
+}
+
+const PAIRS: [Pair; 4] = [
+    Pair("r[3] = (r[1] + 2)", "r[3] = (r[1] + 2)", true, true),
+    Pair("r[3] = (r[1] + 2)", "r[3] = (2 + r[1])", false, true),
+    Pair("r[3] = (r[1] + 2)", "r[3] = (r[1] + 3)", false, false),
+    Pair("r[3] = (r[1] - 2)", "r[3] = (2 - r[1])", false, false),
 ];
 
-/// Whether the values of two transfers are equal, and whether they are alike.
-fn compared(alloc: Global, left: &str, right: &str) -> Result<(bool, bool), TextFault> {
-    let a = value(alloc, left)?;
-    let b = value(alloc, right)?;
-    Ok((same(&a, &b), alike(&a, &b)))
+/// A transfer whose value is taken away, so that 0 is left.
+struct Taken(&'static str);
+
+fn is_taken(alloc: Global, e: &mut Expr) -> bool {
+    match copy(alloc, e) {
+        Ok(other) => {
+            let taken = take(e);
+            same(e, &Expr::Num(0)) && same(&taken, &other)
+        }
+        Err(_) => false,
+    }
+}
+
+impl Row for Taken {
+    fn holds(&self, alloc: Global) -> bool {
+        match value(alloc, self.0) {
+            Ok(mut e) => is_taken(alloc, &mut e),
+            Err(_) => false,
+        }
+    }
 }
 
 #[test]
-fn trees_are_taken_copied_and_compared(rt: HostRuntime) -> Result<(), Fail> {
+fn trees_are_taken_copied_and_compared(rt: HostRuntime) {
     let alloc = rt.alloc();
-    for (left, right, equal, matching) in PAIRS {
-        assert_eq!(rt;
-            compared(alloc, left, right)?,
-            (equal, matching),
-            "{left} {right}"
-        );
+    check(&rt, alloc, "pairs", &PAIRS);
+    check(&rt, alloc, "taken", &[Taken("r[3] = (r[1] + 2)")]);
+}
+
+/// A transfer, the cell for which the value of another one is put so many times in its first assignment, and whether it is well
+/// formed then.
+struct Grown(&'static str, Cell, &'static str, u32, bool);
+
+const GROWN: [Grown; 5] = [
+    Grown("r[0] = r[1]", Cell::Hard(1), "r[3] = (neg r[1])", 31, true),
+    Grown("r[0] = r[1]", Cell::Hard(1), "r[3] = (neg r[1])", 32, false),
+    Grown("M[r[1]] = 0", Cell::Hard(1), "r[3] = (neg r[1])", 30, true),
+    Grown("M[r[1]] = 0", Cell::Hard(1), "r[3] = (neg r[1])", 31, false),
+    Grown("r[0] = (f[0] lt)", Cell::Flag(0), "r[3] = r[1]", 1, false),
+];
+
+/// Whether there was memory to put a tree so many times for a cell.
+fn grow(alloc: Global, e: &mut Expr, row: &Grown, by: &Expr) -> bool {
+    let mut is_whole = true;
+    for _ in 0..row.3 {
+        is_whole &= substitute(alloc, e, row.1, by).is_ok();
     }
-    let mut sum = value(alloc, "r[3] = (r[1] + 2)")?;
-    let other = copy(alloc, &sum)?;
-    let taken = take(&mut sum);
-    assert!(rt; same(&sum, &Expr::Num(0)));
-    assert!(rt; same(&taken, &other));
-    Ok(())
+    is_whole
 }
 
-/// A leaf under so many negations.
-fn negations(alloc: Global, count: u32) -> Result<Expr, NoMemory> {
-    let mut e = Expr::Num(1);
-    for _ in 0..count {
-        e = Expr::Un(UnOp::Neg, Box::new(alloc, e)?);
+fn grow_address(alloc: Global, to: &mut Place, row: &Grown, by: &Expr) -> bool {
+    match to {
+        Place::Mem(_, at) => grow(alloc, at, row, by),
+        Place::Cell(_) => true,
     }
-    Ok(e)
 }
 
-/// Whether the transfer of this one assignment is well formed.
-fn may_stand(alloc: Global, to: Place, value: Expr) -> Result<bool, NoMemory> {
-    let mut list = SmallVec::new(alloc);
-    list.push(Assign { to, value })?;
-    Ok(well_formed(&Effects { list }))
+impl Grown {
+    fn is_so(&self, alloc: Global, by: &Expr) -> bool {
+        match read_transfer::<W16>(alloc, self.0.as_bytes(), &no_names(alloc)) {
+            Ok(mut transfer) => {
+                let first = &mut transfer.list[0];
+                let is_whole = grow_address(alloc, &mut first.to, self, by)
+                    & grow(alloc, &mut first.value, self, by);
+                is_whole && well_formed(&transfer) == self.4
+            }
+            Err(_) => false,
+        }
+    }
 }
 
-/// Whether a number may be stored at so many negations of another.
-fn may_be_address(alloc: Global, count: u32) -> Result<bool, NoMemory> {
-    let at = negations(alloc, count)?;
-    may_stand(alloc, Place::Mem(Width::Full, at), Expr::Num(0))
-}
-
-/// Whether the register may hold the test of a register.
-fn may_be_tested(alloc: Global) -> Result<bool, NoMemory> {
-    let register = Box::new(alloc, Expr::Cell(Cell::Hard(1)))?;
-    let test = Expr::Un(UnOp::Test(Rel::Lt), register);
-    may_stand(alloc, Place::Cell(Cell::Hard(0)), test)
+impl Row for Grown {
+    fn holds(&self, alloc: Global) -> bool {
+        match value(alloc, self.2) {
+            Ok(by) => self.is_so(alloc, &by),
+            Err(_) => false,
+        }
+    }
 }
 
 #[test]
-fn transfers_that_no_text_spells(rt: HostRuntime) -> Result<(), Fail> {
-    let alloc = rt.alloc();
-    let register = Place::Cell(Cell::Hard(0));
-    assert!(rt; may_stand(alloc, register, negations(alloc, 31)?)?);
-    let register = Place::Cell(Cell::Hard(0));
-    assert!(rt; !may_stand(alloc, register, negations(alloc, 32)?)?);
-    assert!(rt; may_be_address(alloc, 30)?);
-    assert!(rt; !may_be_address(alloc, 31)?);
-    assert!(rt; !may_be_tested(alloc)?);
-    Ok(())
+fn transfers_that_no_text_spells(rt: HostRuntime) {
+    check(&rt, rt.alloc(), "grown", &GROWN);
 }
+
+/// A cell, and whether the set has it.
+struct InSet(Cell, bool);
+
+const TEMPS: [u64; 2] = [0, 1 << 63];
+
+impl Row for InSet {
+    fn holds(&self, _: Global) -> bool {
+        CellSet::of(1 << 5, 1 << 7, &TEMPS).has(self.0) == self.1
+    }
+}
+
+const CELLS: [InSet; 10] = [
+    InSet(Cell::Hard(5), true),
+    InSet(Cell::Hard(4), false),
+    InSet(Cell::Hard(69), false),
+    InSet(Cell::Flag(7), true),
+    InSet(Cell::Flag(15), false),
+    InSet(Cell::Temp(127), true),
+    InSet(Cell::Temp(63), false),
+    InSet(Cell::Temp(191), false),
+    InSet(Cell::Pc, false),
+    InSet(Cell::Hole(5), false),
+];
 
 #[test]
 fn a_set_has_its_cells(rt: HostRuntime) {
-    let temps = [0u64, 1 << 63];
-    let set = CellSet::of(1 << 5, 1 << 7, &temps);
-    let table = [
-        (Cell::Hard(5), true),
-        (Cell::Hard(4), false),
-        (Cell::Hard(69), false),
-        (Cell::Flag(7), true),
-        (Cell::Flag(15), false),
-        (Cell::Temp(127), true),
-        (Cell::Temp(63), false),
-        (Cell::Temp(191), false),
-        (Cell::Pc, false),
-        (Cell::Hole(5), false),
-    ];
-    for (cell, is_there) in table {
-        assert_eq!(rt; set.has(cell), is_there, "{cell:?}");
+    check(&rt, rt.alloc(), "cells", &CELLS);
+}
+
+/// Bytes, and whether they are a name.
+struct Named(&'static [u8], bool);
+
+impl Row for Named {
+    fn holds(&self, _: Global) -> bool {
+        is_name(self.0) == self.1
     }
+}
+
+const NAMES: [Named; 6] = [
+    Named(b"_a1", true),
+    Named(b"", false),
+    Named(b"1a", false),
+    Named(b"a.b", false),
+    Named(&[b'x'; 63], true),
+    Named(&[b'x'; 64], false),
+];
+
+#[test]
+fn names_are_told(rt: HostRuntime) {
+    check(&rt, rt.alloc(), "names", &NAMES);
+}
+
+/// Whether a list of the name `main` finds it until it is cut off.
+fn is_cut(names: &mut NameList) -> bool {
+    let is_there = names.len() == 1 && names.find(b"main") == Some(0) && names.get(1).is_none();
+    names.truncate(1);
+    let is_kept = names.find(b"main") == Some(0);
+    names.truncate(0);
+    is_there && is_kept && names.find(b"main").is_none()
 }
 
 #[test]
 fn names_are_kept_in_order(rt: HostRuntime) -> Result<(), Fail> {
     let alloc = rt.alloc();
-    let table = [
-        (b"_a1".as_slice(), true),
-        (b"".as_slice(), false),
-        (b"1a".as_slice(), false),
-        (b"a.b".as_slice(), false),
-        ([b'x'; 63].as_slice(), true),
-        ([b'x'; 64].as_slice(), false),
-    ];
-    for (bytes, is_one) in table {
-        assert_eq!(rt; is_name(bytes), is_one);
-    }
-    let mut names = NameList::new(alloc);
-    let bytes = Vec::from_array(alloc, [b'm', b'a', b'i', b'n'])?;
-    assert!(rt; is_name(&bytes));
-    assert_eq!(rt; names.find(b"main"), None);
-    names.push(Name::new(bytes))?;
-    assert_eq!(rt; names.find(b"main"), Some(0));
-    assert_eq!(rt; names.len(), 1);
-    assert!(rt; names.get(1).is_none());
-    names.truncate(1);
-    assert_eq!(rt; names.find(b"main"), Some(0));
-    names.truncate(0);
-    assert_eq!(rt; names.find(b"main"), None);
+    assert!(rt; NameList::new(alloc).find(b"main").is_none());
+    let mut names = one_name(alloc, b"main")?;
+    assert!(rt; is_cut(&mut names));
     Ok(())
 }

@@ -1,4 +1,4 @@
-//! The front end of C by example: the tokens, the tree or the refusal of sources, and the sizes of typed trees, each worked out by
+//! The front end of C by example: the tokens, the tree, the typing or the refusal of sources, and the sizes of typed trees, each worked out by
 //! hand.
 //!
 //! Tests are proved, so their form decides what they cost. A table is a constant of rows that are plain literals; the type of its
@@ -14,6 +14,8 @@ mod limits;
 #[cfg(test)]
 mod longest;
 #[cfg(test)]
+mod measures;
+#[cfg(test)]
 mod nesting;
 #[cfg(test)]
 mod page;
@@ -24,8 +26,24 @@ mod printed;
 #[cfg(test)]
 mod refusals;
 #[cfg(test)]
+mod refused_names;
+#[cfg(test)]
+mod refused_statements;
+#[cfg(test)]
+mod refused_twice;
+#[cfg(test)]
+mod refused_uses;
+#[cfg(test)]
+mod refused_values;
+#[cfg(test)]
 mod rows;
 #[cfg(test)]
 mod sources;
 #[cfg(test)]
 mod trees;
+#[cfg(test)]
+mod typed_text;
+#[cfg(test)]
+mod typed_trees;
+#[cfg(test)]
+mod typing;

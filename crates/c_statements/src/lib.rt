@@ -1,0 +1,10 @@
+//! The walk over statements (C11 6.8): their typed trees, with scopes that are left as they were entered, and the first rule
+//! that is broken in them.
+#![tactic(auto)]
+
+mod loops;
+mod nodes;
+mod parts;
+mod statements;
+
+pub use statements::sequence;

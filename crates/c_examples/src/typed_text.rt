@@ -127,6 +127,7 @@ impl Printer {
         }
     }
 
+    #[cycle(expressions)]
     fn two(&mut self, a: &TypedExpr, between: &[u8], b: &TypedExpr) {
         self.put(b"(");
         self.expr(a);
@@ -135,6 +136,7 @@ impl Printer {
         self.put(b")");
     }
 
+    #[cycle(expressions)]
     fn list(&mut self, es: &[TypedExpr]) {
         for (i, e) in es.iter().enumerate() {
             if i > 0 {
@@ -144,6 +146,7 @@ impl Printer {
         }
     }
 
+    #[cycle(expressions)]
     fn expr(&mut self, e: &TypedExpr) {
         match e {
             TypedExpr::Comma(_, a, b) => self.two(a.get(), b" , ", b.get()),
@@ -163,6 +166,7 @@ impl Printer {
         self.head(e.head());
     }
 
+    #[cycle(expressions)]
     fn conditional(&mut self, a: &TypedExpr, b: &TypedExpr, c: &TypedExpr) {
         self.put(b"(");
         self.expr(a);
@@ -173,6 +177,7 @@ impl Printer {
         self.put(b")");
     }
 
+    #[cycle(expressions)]
     fn before(&mut self, operator: &[u8], a: &TypedExpr) {
         self.put(b"(");
         self.put(operator);
@@ -180,6 +185,7 @@ impl Printer {
         self.put(b")");
     }
 
+    #[cycle(expressions)]
     fn after(&mut self, a: &TypedExpr, operator: &[u8]) {
         self.put(b"(");
         self.expr(a);
@@ -187,6 +193,7 @@ impl Printer {
         self.put(b")");
     }
 
+    #[cycle(expressions)]
     fn element(&mut self, x: Variable, index: &TypedExpr) {
         self.variable(x);
         self.put(b"[");
@@ -194,6 +201,7 @@ impl Printer {
         self.put(b"]");
     }
 
+    #[cycle(expressions)]
     fn call(&mut self, f: Callee, arguments: &[TypedExpr]) {
         self.callee(f);
         self.put(b"(");
@@ -201,6 +209,7 @@ impl Printer {
         self.put(b")");
     }
 
+    #[cycle(expressions)]
     fn convert(&mut self, head: Head, a: &TypedExpr) {
         self.head(head);
         self.put(b"(");
@@ -238,6 +247,7 @@ impl Printer {
         }
     }
 
+    #[cycle(statements)]
     fn statements(&mut self, statements: &[Boxed<Stat>]) {
         self.put(b"{");
         for s in statements {
@@ -247,6 +257,7 @@ impl Printer {
     }
 
     /// A statement within another.
+    #[cycle(statements)]
     fn inner(&mut self, s: &Stat) {
         self.put(b"[");
         self.statement(s);
@@ -261,6 +272,7 @@ impl Printer {
         self.put(b")");
     }
 
+    #[cycle(statements)]
     fn statement(&mut self, s: &Stat) {
         match s {
             Stat::Block(_, statements) => self.statements(statements.as_slice()),
@@ -292,6 +304,7 @@ impl Printer {
         }
     }
 
+    #[cycle(statements)]
     fn jump(&mut self, s: &Stat) {
         match s {
             Stat::Case(_, value, inner) => {
@@ -315,6 +328,7 @@ impl Printer {
         }
     }
 
+    #[cycle(statements)]
     fn choice(&mut self, e: &TypedExpr, a: &Stat, b: &Option<Boxed<Stat>>) {
         self.test(b"if", e);
         self.inner(a);
@@ -324,6 +338,7 @@ impl Printer {
         }
     }
 
+    #[cycle(statements)]
     fn loop_of(
         &mut self,
         start: &Start,

@@ -14,6 +14,8 @@ mod limits;
 #[cfg(test)]
 mod longest;
 #[cfg(test)]
+mod measures;
+#[cfg(test)]
 mod nesting;
 #[cfg(test)]
 mod page;
@@ -24,10 +26,24 @@ mod printed;
 #[cfg(test)]
 mod refusals;
 #[cfg(test)]
+mod refused_names;
+#[cfg(test)]
+mod refused_statements;
+#[cfg(test)]
+mod refused_twice;
+#[cfg(test)]
+mod refused_uses;
+#[cfg(test)]
+mod refused_values;
+#[cfg(test)]
 mod rows;
 #[cfg(test)]
 mod sources;
 #[cfg(test)]
 mod trees;
+#[cfg(test)]
+mod typed_text;
+#[cfg(test)]
+mod typed_trees;
 #[cfg(test)]
 mod typing;

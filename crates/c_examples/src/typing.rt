@@ -1,96 +1,121 @@
-//! Sources that are typed, and sources that break a rule of typing, each worked out by hand.
+//! Typing by example: which sources are refused, at which place and by which rule, and which trees the others have. Each row was
+//! worked out by hand from the rules and the C standard.
 
-use crate::trees::{joined, tree_of};
-use c_tree::CFault;
+use crate::rows::{Row, check};
+use crate::sources::{Told, told};
+use crate::typed_text::typed_text;
+use crate::typed_trees::{PLACES, TREES};
+use crate::{refused_names, refused_statements, refused_twice, refused_uses, refused_values};
+use c_tree::{CFault, Typed};
 use c_types::type_program;
 use rtl_word::{W16, W32, Word};
-use std::alloc::{AllocError, Global};
+use std::alloc::Global;
 use std::test::Fail;
-use vp_io::Reason;
 
-/// What stands before the token that is told, the source from there on, and the rule that it breaks; rule 0: none is broken.
-type Typing = (&'static [u8], &'static [u8], u8);
+/// Words of 16 bits and of 32 bits alike.
+pub const BOTH: u8 = 0;
 
-const REFUSED: [Typing; 13] = [
-    (b"int main(void){return ", b"x;}", 11),
-    (b"int main(void){{int x;}return ", b"x;}", 11),
-    (b"int main(void){int x;int ", b"x;return 0;}", 12),
-    (b"int f(void){return 0;}", b"int f(void){return 1;}int main(void){return 0;}", 13),
-    (b"int main(void){int a[", b"0];return 0;}", 16),
-    (b"int x=1;int y=", b"x;int main(void){return 0;}", 18),
-    (b"int main(void){int a[1]={1,", b"2};return 0;}", 19),
-    (b"int f(int a){return a;}int main(void){return ", b"f();}", 23),
-    (b"int main(void){", b"break;return 0;}", 26),
-    (b"int main(void){switch(1){case 65:;case ", b"'A':;}return 0;}", 29),
-    (b"void f(void){", b"return 1;}int main(void){return 0;}", 30),
-    (b"int f(void){return 0;}", b"", 31),
-    (b"int g(void);int main(void){return ", b"g();}", 32),
-];
+/// The longest source, in bytes.
+const LONGEST: usize = 1_048_576;
 
-const SOUND: [&'static [u8]; 3] = [
-    b"int main(void){return 0;}",
-    b"int x;int x=1;int f(int);int main(void){int y=f(x);{int x=y;y=x;}return y;}int f(int a){return a;}",
-    b"#include <stdio.h>\nint a[]={1,'A'};int main(void){for(int i=0;i<2;i++)putchar(a[i]);do{int c=getchar();switch(c){case 1:case 2:break;default:continue;}}while(0);return EOF;}",
-];
+/// A source, the word, and the rule that is told with its line and its column.
+pub struct Refused(pub &'static str, pub u8, pub u8, pub u32, pub u32);
 
-/// The column, on the first line, and the rule that is told of a source.
-fn told<W: Word>(alloc: Global, source: &[u8]) -> Option<(usize, u8)> {
-    let Ok(tree) = tree_of(alloc, source) else {
-        return None;
-    };
-    match type_program::<W>(alloc, &tree) {
-        Err(
-            CFault::Bad(
-                Reason {
-                    line: 1,
-                    column,
-                    rule,
-                    ..
-                },
-            ),
-        ) => Some((column as usize, rule)),
-        _ => None,
+/// A source, the word, and its tree on a page.
+pub struct Tree(pub &'static str, pub u8, pub &'static str);
+
+/// The same, with the column of each expression.
+pub struct Placed(pub &'static str, pub u8, pub &'static str);
+
+pub fn typed_of<W: Word>(alloc: Global, source: &[u8]) -> Result<Typed, CFault> {
+    if source.len() > LONGEST {
+        return Err(CFault::NoMemory);
+    }
+    match c_source::tree_of(alloc, source) {
+        Ok(syntax) => type_program::<W>(alloc, &syntax),
+        Err(fault) => Err(fault),
     }
 }
 
-fn is_sound<W: Word>(alloc: Global, source: &[u8]) -> bool {
-    let Ok(tree) = tree_of(alloc, source) else {
-        return false;
-    };
-    matches!(type_program::<W>(alloc, &tree), Ok(_))
+fn is_told<W: Word>(alloc: Global, source: &str, place: Told) -> bool {
+    told(&typed_of::<W>(alloc, source.as_bytes())) == place
 }
 
-fn is_told(alloc: Global, refused: &Typing) -> Result<bool, AllocError> {
-    let (before, rest, rule) = *refused;
-    let source = joined(alloc, &[before, rest])?;
-    Ok(told::<W16>(alloc, &source) == Some((before.len() + 1, rule)))
-}
-
-#[test]
-fn the_first_rule_is_told(rt: HostRuntime) -> Result<(), Fail> {
-    let alloc = rt.alloc();
-    for refused in &REFUSED {
-        assert!(rt; is_told(alloc, refused)?);
+impl Row for Refused {
+    fn holds(&self, alloc: Global) -> bool {
+        let place = Some((self.3, self.4, self.2));
+        let on_16 = self.1 == 32 || is_told::<W16>(alloc, self.0, place);
+        let on_32 = self.1 == 16 || is_told::<W32>(alloc, self.0, place);
+        on_16 && on_32
     }
-    Ok(())
 }
 
-#[test]
-fn sound_sources_are_typed(rt: HostRuntime) -> Result<(), Fail> {
-    let alloc = rt.alloc();
-    for source in &SOUND {
-        assert!(rt; is_sound::<W16>(alloc, source));
-        assert!(rt; is_sound::<W32>(alloc, source));
+fn has_text<W: Word>(alloc: Global, source: &str, text: &str, columns: bool) -> bool {
+    match typed_of::<W>(alloc, source.as_bytes()) {
+        Ok(tree) => typed_text(alloc, &tree, columns).is(text.as_bytes()),
+        Err(_) => false,
     }
-    Ok(())
 }
 
-/// 32768 is of type int where a word has 32 bits, and of type long where it has 16.
+fn has_tree(alloc: Global, source: &str, word: u8, text: &str, columns: bool) -> bool {
+    let on_16 = word == 32 || has_text::<W16>(alloc, source, text, columns);
+    let on_32 = word == 16 || has_text::<W32>(alloc, source, text, columns);
+    on_16 && on_32
+}
+
+impl Row for Tree {
+    fn holds(&self, alloc: Global) -> bool {
+        has_tree(alloc, self.0, self.1, self.2, false)
+    }
+}
+
+impl Row for Placed {
+    fn holds(&self, alloc: Global) -> bool {
+        has_tree(alloc, self.0, self.1, self.2, true)
+    }
+}
+
 #[test]
-fn constants_go_by_the_word(rt: HostRuntime) -> Result<(), Fail> {
+fn names_are_refused(rt: HostRuntime) {
+    check(&rt, rt.alloc(), "names", &refused_names::ROWS);
+}
+
+#[test]
+fn values_are_refused(rt: HostRuntime) {
+    check(&rt, rt.alloc(), "values", &refused_values::ROWS);
+}
+
+#[test]
+fn uses_are_refused(rt: HostRuntime) {
+    check(&rt, rt.alloc(), "uses", &refused_uses::ROWS);
+}
+
+#[test]
+fn statements_are_refused(rt: HostRuntime) {
+    check(&rt, rt.alloc(), "statements", &refused_statements::ROWS);
+}
+
+/// Of several faults the least place is told, and there the least rule.
+#[test]
+fn first_fault_is_told(rt: HostRuntime) {
+    check(&rt, rt.alloc(), "faults", &refused_twice::ROWS);
+}
+
+#[test]
+fn sources_have_trees(rt: HostRuntime) {
+    check(&rt, rt.alloc(), "trees", &TREES);
+}
+
+#[test]
+fn expressions_have_places(rt: HostRuntime) {
+    check(&rt, rt.alloc(), "places", &PLACES);
+}
+
+/// A source of blanks has no `main`, which is told behind its last byte.
+#[test]
+fn longest_blank_source_has_no_main(rt: HostRuntime) -> Result<(), Fail> {
     let alloc = rt.alloc();
-    let source = b"int main(void){return -32768;}";
-    assert!(rt; told::<W16>(alloc, source) == Some((24, 34)));
-    assert!(rt; is_sound::<W32>(alloc, source));
+    let source = vec![in alloc; b' '; LONGEST]?;
+    assert!(rt; told(&typed_of::<W16>(alloc, &source)) == Some((1, 1_048_577, 31)));
     Ok(())
 }

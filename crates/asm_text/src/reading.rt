@@ -76,11 +76,7 @@ fn read_raw(alloc: Global, d: &RawDescription, text: &[u8]) -> Result<Program, A
 }
 
 /// The program of a text, or the least line that breaks a rule and there the least rule.
-pub fn read_text<W: Word>(
-    alloc: Global,
-    m: &Checked<W>,
-    text: &[u8],
-) -> Result<Program, AsmFault>
+pub fn read_text<W: Word>(alloc: Global, m: &Checked<W>, text: &[u8]) -> Result<Program, AsmFault>
     ensures text { IfOk result (λ p. IsText m.now text.now p) }
     ensures bad { IfErr result (λ f. IsFaultOf m.now text.now f) }
 {

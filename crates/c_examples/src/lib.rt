@@ -42,8 +42,6 @@ mod sources;
 #[cfg(test)]
 mod trees;
 #[cfg(test)]
-mod typed_text;
-#[cfg(test)]
-mod typed_trees;
+mod typed_sources;
 #[cfg(test)]
 mod typing;

@@ -1,0 +1,5 @@
+pub mod Expressions
+pub mod Functions
+pub mod Operations
+pub mod Statements
+pub mod Storage

@@ -1,0 +1,74 @@
+-- Worked nodes and statements, each with its operations.
+use Rattle.std.specs.Prelude.{◌≡◌, ℕ, ◌==◌, if◌then◌else◌, Bool, true, false, List, [], ◌∷◌}
+use Rattle.rtl_word.specs.declared.Rel.TheVariants.{Eq, Ge}
+use Rattle.rtl_tree.specs.declared.expressions.BinOp.TheVariants as op
+use Rattle.c_tree.specs.declared.types.CType.TheVariants as type
+use Rattle.c_tree.specs.declared.syntax.BinaryOperator.{BinaryOperator}
+use Rattle.c_tree.specs.declared.syntax.BinaryOperator.TheVariants.{LogicalAnd, Less, Add, Multiply}
+use Rattle.c_tree.specs.declared.typed.Head.{Head}
+use Rattle.c_tree.specs.declared.typed.Variable.{Variable}
+use Rattle.c_tree.specs.declared.typed.Variable.TheVariants as variable
+use Rattle.c_tree.specs.declared.typed.TypedExpr.TheOpen as expr
+use Rattle.c_meaning.specs.Sketches.{of_int}
+use Rattle.naive_code.specs.Operations.{Falls, Jumps, Branches, Op, Scale, Close, copy, constant, store, operate, add, read_stack}
+use Rattle.naive_code.specs.Storage.{Frame, Storage, Temporary, Elements}
+use Rattle.naive_code.specs.Expressions.{Naive, Site, naive_node}
+use Rattle.naive_code.specs.Statements.{Steps, dropped, while_steps}
+use Rattle.naive_code.specs.Functions.{nowhere}
+
+-- local 3 is an array of int, 60 bytes above the stack register; the others are scalars
+abbrev pub places : Variable → Storage
+places (variable.Static x) = Temporary x
+places (variable.Parameter x) = Temporary x
+places (variable.Local x) = if x == 3 then Elements (Frame 60) type.Int else Temporary x
+
+abbrev pub site : Site
+site = record { bits = 16; storage = places }
+
+abbrev pub int : Head
+int = of_int 1
+
+abbrev pub number : ℕ → Naive
+number v = naive_node site (expr.Constant int v)
+
+abbrev pub name : ℕ → Naive
+name x = naive_node site (expr.Object int (variable.Local x))
+
+abbrev pub element : ℕ → Naive → Naive
+element x i = naive_node site (expr.Element int (variable.Local x) i)
+
+abbrev pub two : Naive → BinaryOperator → Naive → Naive
+two a o b = naive_node site (expr.Binary int a o b)
+
+abbrev pub assign : Naive → Naive → Naive
+assign a b = naive_node site (expr.Assign int a b)
+
+abbrev pub while : Naive → Naive → Steps
+while e a = while_steps site [] e.test (dropped a.value)
+
+-- by the temporaries from 4 on, and the labels from 10 on
+abbrev pub value_ops : Naive → List Op
+value_ops e = e.value.ops 4 10
+
+-- a jump to label 20 where it is 0, else on, with label 21
+abbrev pub test_ops : Naive → List Op
+test_ops e = e.test.ops false 20 21 4 10
+
+abbrev pub stat_ops : Steps → List Op
+stat_ops s = s.ops nowhere 4 10
+
+-- scalars a, b and c are locals 0 to 2, the array d is local 3
+pub record Operations : Type 0 where
+  -- 7
+  pub leaf : value_ops (number 7) ≡ constant 4 7 ∷ []
+  -- a+b*c
+  pub sum : value_ops (two (name 0) Add (two (name 1) Multiply (name 2))) ≡ copy 4 0 ∷ copy 5 1 ∷ copy 6 2 ∷ operate op.Mul 5 6 ∷ add 4 5 ∷ []
+  -- a<b&&c, tested
+  pub conjunction : test_ops (two (two (name 0) Less (name 1)) LogicalAnd (name 2))
+      ≡ copy 4 0 ∷ copy 5 1 ∷ Close (Branches Ge 4 5 20) 10 ∷ copy 6 2 ∷ constant 7 0 ∷ Close (Branches Eq 6 7 20) 21 ∷ []
+  -- d[a]=5
+  pub set_element : value_ops (assign (element 3 (name 0)) (number 5))
+      ≡ copy 4 0 ∷ Scale 4 7 ∷ read_stack 5 ∷ constant 6 60 ∷ add 5 6 ∷ add 4 5 ∷ constant 8 5 ∷ store 4 8 ∷ copy 4 8 ∷ []
+  -- while(a)b=1;
+  pub loop : stat_ops (while (name 0) (assign (name 1) (number 1)))
+      ≡ Close Falls 11 ∷ copy 4 0 ∷ constant 5 0 ∷ Close (Branches Eq 4 5 10) 12 ∷ constant 6 1 ∷ copy 1 6 ∷ Close (Jumps 11) 10 ∷ []

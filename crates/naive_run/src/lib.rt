@@ -1,0 +1,2 @@
+//! Naive code does what its source does: when code does the operations of a function, and the law.
+#![tactic(auto)]

@@ -33,7 +33,7 @@ area a n = record { from = a; count = n }
 rounds_up : (w n : ℕ) → IsWordSize w → n ≤ rounded w n
 rounds_up w n z = by_size (λ w. n ≤ rounded w n) (omega arith) (omega arith) w z
 
-bytes_are : (w : ℕ) → IsWordSize w → w / 8 ≡ word_bytes w
+pub bytes_are : (w : ℕ) → IsWordSize w → w / 8 ≡ word_bytes w
 bytes_are w z = by_size (λ w. w / 8 ≡ word_bytes w) refl refl w z
 
 module _ (t : Target) (u : Image) (k : Call) where
@@ -51,11 +51,11 @@ module _ (t : Target) (u : Image) (k : Call) where
 
   module _ (m : Fixed) (source : Typed) (f : Function) (size : IsWordSize t.word) (unit : IsUnitOf t m source u) (low : t.base + length u.bytes ≤ k.base) where
     -- of an object of the file
-    record OfStatic (x : ℕ) (z : Area) : Type 0 where
-      static : Static
-      is : slice_get source.statics x ≡ Some static
-      from : z.from ≡ slice_index u.symbols x
-      count : z.count ≤ object_bytes t.word static.object
+    pub record OfStatic (x : ℕ) (z : Area) : Type 0 where
+      pub static : Static
+      pub is : slice_get source.statics x ≡ Some static
+      pub from : z.from ≡ slice_index u.symbols x
+      pub count : z.count ≤ object_bytes t.word static.object
 
     static_area : (x : ℕ) (z : Area) (o : Option Static) → slice_get source.statics x ≡ o → area_of (kind_of (object_of o)) (static_in x o) ≡ Some z → OfStatic x z
     static_area x z None is e = no_area z e
@@ -84,18 +84,18 @@ module _ (t : Target) (u : Image) (k : Call) where
         }
 
     -- of an array of the function
-    record OfLocal (x : ℕ) (z : Area) : Type 0 where
-      local : Object
-      is : slice_get f.locals x ≡ Some local
-      from : z.from ≡ k.base + (arrays_from t.word f + arrays t.word (take x f.locals))
-      count : z.count ≤ array_in t.word local.element local.length
+    pub record OfLocal (x : ℕ) (z : Area) : Type 0 where
+      pub local : Object
+      pub is : slice_get f.locals x ≡ Some local
+      pub from : z.from ≡ k.base + (arrays_from t.kept t.word f + arrays t.word (take x f.locals))
+      pub count : z.count ≤ array_in t.word local.element local.length
 
     local_area : (x temp : ℕ) (z : Area) (o : Option Object) → slice_get f.locals x ≡ o
-        → area_of (kind_of o) (local_in temp (arrays_from t.word f + arrays t.word (take x f.locals)) o) ≡ Some z → OfLocal x z
+        → area_of (kind_of o) (local_in temp (arrays_from t.kept t.word f + arrays t.word (take x f.locals)) o) ≡ Some z → OfLocal x z
     local_area x temp z None is e = no_area z e
     local_area x temp z (Some o) is e = by_length o.length refl e
       where
-        by_length : (l : Option ℕ) → o.length ≡ l → area_of (kind_by o.element l) (local_storage temp (arrays_from t.word f + arrays t.word (take x f.locals)) o.element l) ≡ Some z → OfLocal x z
+        by_length : (l : Option ℕ) → o.length ≡ l → area_of (kind_by o.element l) (local_storage temp (arrays_from t.kept t.word f + arrays t.word (take x f.locals)) o.element l) ≡ Some z → OfLocal x z
         by_length None l g = no_area z g
         by_length (Some n) l g = record {
           local = o;
@@ -113,9 +113,9 @@ module _ (t : Target) (u : Image) (k : Call) where
 
     statics_apart : (x y : ℕ) (a b : Area) → x ≢ y → OfStatic x a → OfStatic y b → Apart a b
     statics_apart x y a b ne p q = elim (cases_lt x y) as (λ _. Apart a b) [
-      | inl lt ↦ inl (let z = unit.apart x y p.static lt p.is in omega (arith, z, p.from, p.count, q.from))
+      | inl lt ↦ inl (let z = unit.apart x y p.static q.static lt p.is q.is in omega (arith, z, p.from, p.count, q.from))
       | inr ge ↦ elim (cases_lt y x) as (λ _. Apart a b) [
-        | inl lt ↦ inr (let z = unit.apart y x q.static lt q.is in omega (arith, z, q.from, q.count, p.from))
+        | inl lt ↦ inr (let z = unit.apart y x q.static p.static lt q.is p.is in omega (arith, z, q.from, q.count, p.from))
         | inr le ↦ absurd (ne (omega (arith, ge, le)))
       ]
     ]
@@ -132,18 +132,18 @@ module _ (t : Target) (u : Image) (k : Call) where
     static_below : (x y : ℕ) (a b : Area) → OfStatic x a → OfLocal y b → a.from + a.count ≤ b.from
     static_below x y a b p q = let z = (unit.statics x p.static p.is).to in omega (arith, z, low, p.from, p.count, q.from)
 
-    abbrev object_area : Variable → Option Area
-    object_area x = area_of (kind_in source f x) (storage_of t.word source f x)
+    abbrev pub object_area : Variable → Option Area
+    object_area x = area_of (kind_in source f x) (storage_of t.kept t.word source f x)
 
-    no_parameter : {A : Type 0} (x : ℕ) (z : Area) (g : Kind) → area_of g (Temporary x) ≡ Some z → A
+    pub no_parameter : {A : Type 0} (x : ℕ) (z : Area) (g : Kind) → area_of g (Temporary x) ≡ Some z → A
     no_parameter x z missing e = no_area z e
     no_parameter x z (scalar of) e = no_area z e
     no_parameter x z (array of n) e = no_area z e
 
-    of_static : (x : ℕ) (z : Area) → object_area (variable.Static x) ≡ Some z → OfStatic x z
+    pub of_static : (x : ℕ) (z : Area) → object_area (variable.Static x) ≡ Some z → OfStatic x z
     of_static x z e = static_area x z (slice_get source.statics x) refl e
 
-    of_local : (x : ℕ) (z : Area) → object_area (variable.Local x) ≡ Some z → OfLocal x z
+    pub of_local : (x : ℕ) (z : Area) → object_area (variable.Local x) ≡ Some z → OfLocal x z
     of_local x z e = local_area x (length f.params + scalars (take x f.locals)) z (slice_get f.locals x) refl e
 
     -- two objects have no byte in common

@@ -96,9 +96,9 @@ same_local os x y o p is_x none_x is_y none_y e = elim (cases_lt x y) as (λ _. 
   ]
 ]
 
-module _ (w : ℕ) (source : Typed) (f : Function) where
+module _ (kept : List ℕ) (w : ℕ) (source : Typed) (f : Function) where
   abbrev place_of : Variable → Storage
-  place_of = storage_of w source f
+  place_of = storage_of kept w source f
 
   pub one_temporary : (x y : Variable) (n : ℕ) (of by : CType) → place_of x ≡ Temporary n → place_of y ≡ Temporary n → kind_in source f x ≡ scalar of → kind_in source f y ≡ scalar by → x ≡ y
   one_temporary (variable.Static x) y n of by e g is be = absurd (no_static x n (slice_get source.statics x) e)
@@ -107,23 +107,23 @@ module _ (w : ℕ) (source : Typed) (f : Function) where
   one_temporary (variable.Parameter x) (variable.Local y) n of by e g is be =
       let below = parameter_below f.params x of (slice_get f.params x) refl is in
       let same : x ≡ n = ap number_of e in
-      let other = (local_number (length f.params + scalars (take y f.locals)) (arrays_from w f + arrays w (take y f.locals)) n f.locals y (slice_get f.locals y) refl g).0 in
+      let other = (local_number (length f.params + scalars (take y f.locals)) (arrays_from kept w f + arrays w (take y f.locals)) n f.locals y (slice_get f.locals y) refl g).0 in
       absurd (omega (arith, below, same, other))
   one_temporary (variable.Local x) (variable.Parameter y) n of by e g is be =
       let below = parameter_below f.params y by (slice_get f.params y) refl be in
       let same : y ≡ n = ap number_of g in
-      let other = (local_number (length f.params + scalars (take x f.locals)) (arrays_from w f + arrays w (take x f.locals)) n f.locals x (slice_get f.locals x) refl e).0 in
+      let other = (local_number (length f.params + scalars (take x f.locals)) (arrays_from kept w f + arrays w (take x f.locals)) n f.locals x (slice_get f.locals x) refl e).0 in
       absurd (omega (arith, below, same, other))
   one_temporary (variable.Local x) (variable.Local y) n of by e g is be =
-      let a = (local_number (length f.params + scalars (take x f.locals)) (arrays_from w f + arrays w (take x f.locals)) n f.locals x (slice_get f.locals x) refl e).0 in
-      let b = (local_number (length f.params + scalars (take y f.locals)) (arrays_from w f + arrays w (take y f.locals)) n f.locals y (slice_get f.locals y) refl g).0 in
-      let o = local_length (length f.params + scalars (take x f.locals)) (arrays_from w f + arrays w (take x f.locals)) n f.locals x (slice_get f.locals x) refl e in
-      let p = local_length (length f.params + scalars (take y f.locals)) (arrays_from w f + arrays w (take y f.locals)) n f.locals y (slice_get f.locals y) refl g in
+      let a = (local_number (length f.params + scalars (take x f.locals)) (arrays_from kept w f + arrays w (take x f.locals)) n f.locals x (slice_get f.locals x) refl e).0 in
+      let b = (local_number (length f.params + scalars (take y f.locals)) (arrays_from kept w f + arrays w (take y f.locals)) n f.locals y (slice_get f.locals y) refl g).0 in
+      let o = local_length (length f.params + scalars (take x f.locals)) (arrays_from kept w f + arrays w (take x f.locals)) n f.locals x (slice_get f.locals x) refl e in
+      let p = local_length (length f.params + scalars (take y f.locals)) (arrays_from kept w f + arrays w (take y f.locals)) n f.locals y (slice_get f.locals y) refl g in
       ap variable.Local (same_local f.locals x y o.0 p.0 o.1 o.2 p.1 p.2 (omega (arith, a, b)))
 
 module _ (t : Target) (u : Image) (k : Call) (source : Typed) (f : Function) where
   -- a scalar in a temporary is set to a value of its type
-  pub rep_set : (s : State) (c d : Point) (x : Variable) (n v : ℕ) (of : CType) → storage_of t.word source f x ≡ Temporary n → kind_in source f x ≡ scalar of → as_type t.word of v ≡ v
+  pub rep_set : (s : State) (c d : Point) (x : Variable) (n v : ℕ) (of : CType) → storage_of t.kept t.word source f x ≡ Temporary n → kind_in source f x ≡ scalar of → as_type t.word of v ≡ v
       → SetsTemp n (Some v) c d → Rep t u k source f s c → Rep t u k source f (store s x 0 (Some v)) d
   rep_set s c d x n v of place kind typed h r = record {
     stack = h.regs t.sp ∙ r.stack;
@@ -147,14 +147,14 @@ module _ (t : Target) (u : Image) (k : Call) (source : Typed) (f : Function) whe
       told_here : (i : ℕ) (g : Kind) (place' : Storage) → g ≡ scalar of → place' ≡ Temporary n → Holds t u k g place' i (Some v) d
       told_here i g place' e e' = subst (λ g. Holds t u k g place' i (Some v) d) (sym e) (subst (λ p. Holds t u k (scalar of) p i (Some v) d) (sym e') (λ z. h.temp))
 
-      held_by : (y : Variable) (j : ℕ) → After s x 0 (Some v) y j → Holds t u k (kind_in source f y) (storage_of t.word source f y) j (load (store s x 0 (Some v)) y j) d
+      held_by : (y : Variable) (j : ℕ) → After s x 0 (Some v) y j → Holds t u k (kind_in source f y) (storage_of t.kept t.word source f y) j (load (store s x 0 (Some v)) y j) d
       held_by y j (here p q e) =
-          subst (λ o. Holds t u k (kind_in source f y) (storage_of t.word source f y) j o d) (sym e)
-          (told_here j (kind_in source f y) (storage_of t.word source f y) (ap (kind_in source f) p ∙ kind) (ap (storage_of t.word source f) p ∙ place))
+          subst (λ o. Holds t u k (kind_in source f y) (storage_of t.kept t.word source f y) j o d) (sym e)
+          (told_here j (kind_in source f y) (storage_of t.kept t.word source f y) (ap (kind_in source f) p ∙ kind) (ap (storage_of t.kept t.word source f) p ∙ place))
       held_by y j (elsewhere differs e) =
-          subst (λ o. Holds t u k (kind_in source f y) (storage_of t.word source f y) j o d) (sym e)
-          (holds_like t u k (kind_in source f y) (storage_of t.word source f y) j (load s y j) c d
-          (λ i is by is_scalar zero_is. h.others i (λ same. differs (one_temporary t.word source f y x n by of (is ∙ ap Temporary same) place is_scalar kind) zero_is))
+          subst (λ o. Holds t u k (kind_in source f y) (storage_of t.kept t.word source f y) j o d) (sym e)
+          (holds_like t u k (kind_in source f y) (storage_of t.kept t.word source f y) j (load s y j) c d
+          (λ i is by is_scalar zero_is. h.others i (λ same. differs (one_temporary t.kept t.word source f y x n by of (is ∙ ap Temporary same) place is_scalar kind) zero_is))
           (λ a i. word_same c.view.bytes d.view.bytes a i (λ b low high. h.bytes b)) (r.held y j))
 
       typed_by : (y : Variable) (j z : ℕ) → load (store s x 0 (Some v)) y j ≡ Some z → After s x 0 (Some v) y j → as_type t.word (type_in (kind_in source f y)) z ≡ z

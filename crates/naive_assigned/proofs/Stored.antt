@@ -2,7 +2,6 @@
 use Rattle.std.proofs.Common.{◌≡◌, ◌≢◌, ℕ, zero, suc, ◌+◌, ◌*◌, ◌%◌, ◌/◌, ◌^◌, ◌≤◌, ◌<◌, ◌⊎◌, inl, inr, List, Option, Some, None, refl, sym, ap, ◌∙◌, subst, arith}
 use Rattle.std.specs.Prelude.{slice_index, length, unwrap_or}
 use Rattle.std.proofs.lemmas.Bool.{cases_lt}
-use Rattle.std.proofs.Math.Nat.{mul-le-mul_left, mul-suc, mul_comm}
 use Rattle.behaviour.specs.Run.{AreBytes}
 use Rattle.rtl_word.specs.Words.{IsWordSize}
 use Rattle.rtl_word.proofs.Below.{by_size}
@@ -27,6 +26,7 @@ use Rattle.naive_run.specs.Law.{IsUnitOf}
 use Rattle.naive_step.proofs.Making.{Call}
 use Rattle.naive_step.proofs.Acts.{Stores}
 use Rattle.naive_step.proofs.Memory.{word_apart, back_1, back_2, back_4}
+use Rattle.naive_rep.proofs.Rooms.{element_before, within}
 use Rattle.naive_rep.proofs.Rep.{Told, Holds, Rep, told_same, cut_to, address_of}
 use Rattle.naive_assigned.proofs.Assigned.{After, here, elsewhere, after_store, index_of}
 use Rattle.naive_assigned.proofs.Areas.{Area, area_of, areas_apart}
@@ -77,13 +77,7 @@ same_variable (variable.Parameter a) (variable.Local b) = inr (λ p. grind (arit
 same_variable (variable.Local a) (variable.Static b) = inr (λ p. grind (arith, p))
 same_variable (variable.Local a) (variable.Parameter b) = inr (λ p. grind (arith, p))
 
--- two elements of an array have no byte in common, and each lies within it
-element_before : (size i j : ℕ) → i < j → size * i + size ≤ size * j
-element_before size i j lt = let z : size * suc i ≤ size * j = mul-le-mul_left size (let y : suc i ≤ j = omega (arith, lt) in y) in let e : size * suc i ≡ size * i + size = mul-suc size i in omega (arith, z, e)
-
-within : (size i n : ℕ) → i < n → size * i + size ≤ n * size
-within size i n lt = let z = element_before size i n lt in let e : size * n ≡ n * size = mul_comm size n in omega (arith, z, e)
-
+-- two elements of an array have no byte in common
 elements_apart : (from size i j : ℕ) → (j ≡ i → ⊥) → (from + size * j + size ≤ from + size * i) ⊎ (from + size * i + size ≤ from + size * j)
 elements_apart from size i j ne = elim (cases_lt j i) as (λ _. (from + size * j + size ≤ from + size * i) ⊎ (from + size * i + size ≤ from + size * j)) [
   | inl lt ↦ inl (let z = element_before size j i lt in omega (arith, z))
@@ -122,7 +116,7 @@ module _ (t : Target) (u : Image) (k : Call) where
     kind_of_it = kind_in source f
 
     abbrev place_of_it : Variable → Storage
-    place_of_it = storage_of t.word source f
+    place_of_it = storage_of t.kept t.word source f
 
     -- what is stored lies within one object, and of this one's own values all is known
     stored_in : (s : State) (c d : Point) (x : Variable) (i v at count : ℕ) (a : Area) → area_of t u k (kind_of_it x) (place_of_it x) ≡ Some a → a.from ≤ at → at + count ≤ a.from + a.count

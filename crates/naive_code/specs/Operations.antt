@@ -1,7 +1,6 @@
 -- What naive code is made of: the transfers of shapes, on temporaries, and the ends of blocks.
 use Rattle.std.specs.Prelude.{ℕ, ◌+◌, ◌*◌, List, [], ◌∷◌}
 use Rattle.rtl_word.specs.declared.Rel.{Rel}
-use Rattle.rtl_word.specs.declared.Rel.TheVariants.{Eq, Ne, Lt, Le, Gt, Ge, Ltu, Leu, Gtu, Geu}
 use Rattle.rtl_tree.specs.declared.cells.Cell.TheVariants.{Temp}
 use Rattle.rtl_tree.specs.declared.cells.Lab.TheVariants as label
 use Rattle.rtl_tree.specs.declared.expressions.BinOp.{BinOp}
@@ -91,16 +90,3 @@ read_result a = Make shape.ReadResult (on_two a a)
 
 abbrev pub set_result : ℕ → Op
 set_result a = Make shape.SetResult (on_two a a)
-
--- the relation that holds where another doesn't
-abbrev pub opposite : Rel → Rel
-opposite Eq = Ne
-opposite Ne = Eq
-opposite Lt = Ge
-opposite Ge = Lt
-opposite Le = Gt
-opposite Gt = Le
-opposite Ltu = Geu
-opposite Geu = Ltu
-opposite Leu = Gtu
-opposite Gtu = Leu

@@ -42,11 +42,11 @@ abbrev pub scalar_count : Function → ℕ
 scalar_count f = length f.params + scalars f.locals
 
 -- the arrays stand behind the words of the frame
-abbrev pub arrays_from : ℕ → Function → ℕ
-arrays_from w f = word_bytes w * frame_words f
+abbrev pub arrays_from : (kept : List ℕ) → ℕ → Function → ℕ
+arrays_from kept w f = word_bytes w * frame_words kept f
 
-abbrev pub storage_of : ℕ → Typed → Function → Variable → Storage
-storage_of w t f (variable.Static x) = static_in x (slice_get t.statics x)
-storage_of w t f (variable.Parameter x) = Temporary x
-storage_of w t f (variable.Local x) =
-    local_in (length f.params + scalars (take x f.locals)) (arrays_from w f + arrays w (take x f.locals)) (slice_get f.locals x)
+abbrev pub storage_of : (kept : List ℕ) → ℕ → Typed → Function → Variable → Storage
+storage_of kept w t f (variable.Static x) = static_in x (slice_get t.statics x)
+storage_of kept w t f (variable.Parameter x) = Temporary x
+storage_of kept w t f (variable.Local x) =
+    local_in (length f.params + scalars (take x f.locals)) (arrays_from kept w f + arrays w (take x f.locals)) (slice_get f.locals x)

@@ -70,18 +70,18 @@ module _ (t : Target) (u : Image) (k : Call) where
       pub stack : c.view.cells (Hard t.sp) ≡ Some k.base
       pub input : c.view.input ≡ s.input
       pub bytes : AreBytes s.input
-      pub held : (x : Variable) (i : ℕ) → Holds (kind_in source f x) (storage_of t.word source f x) i (load s x i) c
+      pub held : (x : Variable) (i : ℕ) → Holds (kind_in source f x) (storage_of t.kept t.word source f x) i (load s x i) c
       pub typed : (x : Variable) (i v : ℕ) → load s x i ≡ Some v → as_type t.word (type_in (kind_in source f x)) v ≡ v
 
     -- nothing changes of what stands for the storage
     pub rep_like : (s : State) (c d : Point) → d.view.cells (Hard t.sp) ≡ c.view.cells (Hard t.sp) → d.view.input ≡ c.view.input
-        → ((x : Variable) (n : ℕ) → storage_of t.word source f x ≡ Temporary n → (of : CType) → kind_in source f x ≡ scalar of → d.view.cells (Temp n) ≡ c.view.cells (Temp n))
+        → ((x : Variable) (n : ℕ) → storage_of t.kept t.word source f x ≡ Temporary n → (of : CType) → kind_in source f x ≡ scalar of → d.view.cells (Temp n) ≡ c.view.cells (Temp n))
         → ((b : ℕ) → d.view.bytes b ≡ c.view.bytes b) → Rep s c → Rep s d
     rep_like s c d stack input temps bytes r = record {
       stack = stack ∙ r.stack;
       input = input ∙ r.input;
       bytes = r.bytes;
-      held = λ x i. holds_like (kind_in source f x) (storage_of t.word source f x) i (load s x i) c d (λ n is of kind z. temps x n is of kind)
+      held = λ x i. holds_like (kind_in source f x) (storage_of t.kept t.word source f x) i (load s x i) c d (λ n is of kind z. temps x n is of kind)
           (λ a n. word_same c.view.bytes d.view.bytes a n (λ b low high. bytes b)) (r.held x i);
       typed = r.typed;
     }

@@ -1,5 +1,6 @@
 -- Where local objects stand: each scalar has a temporary of its own, each array its own bytes of the frame.
 use Rattle.std.proofs.Common.{◌≡◌, ◌≢◌, ℕ, zero, suc, ◌+◌, ◌*◌, ◌≤◌, ◌<◌, List, [], ◌∷◌, Option, Some, None, refl, sym, ap, ◌∙◌, arith}
+use Rattle.std.proofs.Math.Nat.{mul-le-mul_left, mul-suc, mul_comm}
 use Rattle.std.specs.Prelude.{take, slice_get, unwrap_or, length}
 use Rattle.c_tree.specs.declared.typed.Object.{Object}
 use Rattle.c_limits.specs.Frames.{scalar_in, scalars, array_in, arrays}
@@ -36,3 +37,10 @@ module _ (w : ℕ) where
   array_before (p ∷ os) x zero o lt e = absurd (omega (arith, lt))
   array_before (p ∷ os) zero (suc y) o lt e = let here : room p ≡ room o = ap room (same_object p o e) in omega (arith, here)
   array_before (p ∷ os) (suc x) (suc y) o lt e = let ih = array_before os x y o (omega (arith, lt)) e in omega (arith, ih)
+
+-- of elements of a size, each ends before the next one begins, and within the array
+pub element_before : (size i j : ℕ) → i < j → size * i + size ≤ size * j
+element_before size i j lt = let z : size * suc i ≤ size * j = mul-le-mul_left size (let y : suc i ≤ j = omega (arith, lt) in y) in let e : size * suc i ≡ size * i + size = mul-suc size i in omega (arith, z, e)
+
+pub within : (size i n : ℕ) → i < n → size * i + size ≤ n * size
+within size i n lt = let z = element_before size i n lt in let e : size * n ≡ n * size = mul_comm size n in omega (arith, z, e)

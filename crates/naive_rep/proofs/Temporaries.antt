@@ -45,14 +45,14 @@ local_number temp offset n os x (Some o) is e = by_length o.length refl e
     by_length None l z = (sym (ap number_of z), scalar_below os x o is l)
     by_length (Some k) l z = absurd (grind (arith, z))
 
-pub temporary_below : (w : ℕ) (source : Typed) (f : Function) (x : Variable) (n : ℕ) → storage_of w source f x ≡ Temporary n → (of : CType) → kind_in source f x ≡ scalar of → n < scalar_count f
-temporary_below w source f (variable.Static x) n e of is = absurd (no_static x n (slice_get source.statics x) e)
-temporary_below w source f (variable.Parameter x) n e of is =
+pub temporary_below : (kept : List ℕ) (w : ℕ) (source : Typed) (f : Function) (x : Variable) (n : ℕ) → storage_of kept w source f x ≡ Temporary n → (of : CType) → kind_in source f x ≡ scalar of → n < scalar_count f
+temporary_below kept w source f (variable.Static x) n e of is = absurd (no_static x n (slice_get source.statics x) e)
+temporary_below kept w source f (variable.Parameter x) n e of is =
     let same : x ≡ n = ap number_of e in
     let below : x < length f.params = parameter_below f.params x of (slice_get f.params x) refl is in
     omega (arith, same, below)
-temporary_below w source f (variable.Local x) n e of is =
-    let h = local_number (length f.params + scalars (take x f.locals)) (arrays_from w f + arrays w (take x f.locals)) n f.locals x (slice_get f.locals x) refl e in
+temporary_below kept w source f (variable.Local x) n e of is =
+    let h = local_number (length f.params + scalars (take x f.locals)) (arrays_from kept w f + arrays w (take x f.locals)) n f.locals x (slice_get f.locals x) refl e in
     let same = h.0 in let below = h.1 in
     omega (arith, same, below)
 
@@ -61,5 +61,5 @@ module _ (t : Target) (u : Image) (k : Call) (source : Typed) (f : Function) whe
   pub rep_temp : (s : State) (c d : Point) (a : ℕ) (x : Option ℕ) → scalar_count f ≤ a → SetsTemp a x c d → Rep t u k source f s c → Rep t u k source f s d
   rep_temp s c d a x le h r =
       rep_like t u k source f s c d (h.regs t.sp) h.input
-      (λ y n is of kind. h.others n (λ e. let below = temporary_below t.word source f y n is of kind in omega (arith, e, le, below)))
+      (λ y n is of kind. h.others n (λ e. let below = temporary_below t.kept t.word source f y n is of kind in omega (arith, e, le, below)))
       h.bytes r

@@ -1,20 +1,20 @@
 -- Naive code does what its source does.
-use Rattle.std.specs.Prelude.{true, ◌≡◌, ◌≢◌, ◌≤◌, ◌<◌, ℕ, suc, ◌+◌, ◌-◌, ◌*◌, ◌/◌, ◌%◌, ◌^◌, List, [], length, slice_get, slice_index, Option, Some, None}
-use Rattle.rtl_word.specs.Words.{IsWordSize}
-use Rattle.behaviour.specs.Run.{AreBytes, Same}
+use Rattle.std.specs.Prelude.{true, ◌≡◌, ◌≤◌, ◌<◌, ℕ, suc, ◌+◌, ◌-◌, ◌*◌, ◌/◌, ◌%◌, ◌^◌, List, [], length, slice_get, slice_index, Option, Some, None}
+use Rattle.behaviour.specs.Run.{Run, AreBytes, Same}
 use Rattle.md_shapes.specs.Shapes.{Frame as Fixed}
 use Rattle.c_tree.specs.declared.types.CType.{CType}
 use Rattle.c_tree.specs.declared.typed.Object.{Object}
 use Rattle.c_tree.specs.declared.typed.Function.{Function}
 use Rattle.c_tree.specs.declared.typed.Static.{Static}
 use Rattle.c_tree.specs.declared.typed.Typed.{Typed}
-use Rattle.c_limits.specs.Frames.{call_bytes, frame_bytes, object_bytes, element_bytes}
-use Rattle.c_meaning.specs.Parts.{Setting}
+use Rattle.c_limits.specs.Frames.{frame_bytes, object_bytes, element_bytes}
+use Rattle.c_meaning.specs.Settings.{setting_of}
 use Rattle.c_meaning.specs.Run.{source_run, main_in, listed, IsClean}
 use Rattle.temp_machine.specs.Routines.{Routine, Image, Target, pushed, Returns}
 use Rattle.rtl_effect.specs.Views.{word_at}
 use Rattle.temp_machine.specs.Machine.{first_byte, temporary_run}
 use Rattle.temp_machine.specs.Live.{Place, End, item_at}
+use Rattle.temp_machine.specs.Units.{IsTarget}
 use Rattle.naive_code.specs.Functions.{function_ops, function_homes, slots_of, first_home_of}
 use Rattle.naive_run.specs.Standing.{Stands}
 use Rattle.naive_run.specs.Sound.{is_sound}
@@ -30,12 +30,12 @@ pub record IsFixedBy (t : Target) (m : Fixed) : Type 0 where
 -- the routine is the naive code of the function, whose first block has this label
 pub record Expands (t : Target) (m : Fixed) (source : Typed) (f : Function) (label : ℕ) (r : Routine) : Type 0 where
   pub params : r.params ≡ length f.params
-  pub frame : r.frame ≡ frame_bytes t.word f
-  pub first_home : r.first_home ≡ first_home_of t.word f
+  pub frame : r.frame ≡ frame_bytes t.kept t.word f
+  pub first_home : r.first_home ≡ first_home_of t.kept t.word f
   pub slots : r.slots ≡ slots_of f
-  pub homes : r.homes ≡ function_homes t.word source f
+  pub homes : r.homes ≡ function_homes t.kept t.word source f
   pub last : Place
-  pub stands : Stands t.word m r (function_ops t.word (pushed t) source f label) (record { block = 0; at = 0 }) last
+  pub stands : Stands t.word m r (function_ops t.kept t.word (pushed t) source f label) (record { block = 0; at = 0 }) last
   pub returns : item_at r last ≡ Some (End Returns)
 
 -- an element of an array of a character type is a byte, and everything else a word
@@ -66,22 +66,19 @@ pub record IsUnitOf (t : Target) (m : Fixed) (source : Typed) (u : Image) : Type
   pub main : u.main ≡ main_in source.functions
   pub functions : (g : ℕ) (f : Function) → slice_get source.functions g ≡ Some f → (label : ℕ) × Expands t m source f label (u.routines g)
   pub statics : (x : ℕ) (s : Static) → slice_get source.statics x ≡ Some s → HoldsStatic t u x s
-  pub apart : (x y : ℕ) (s : Static) → x < y → slice_get source.statics x ≡ Some s → slice_index u.symbols x + object_bytes t.word s.object ≤ slice_index u.symbols y
+  pub apart : (x y : ℕ) (s r : Static) → x < y → slice_get source.statics x ≡ Some s → slice_get source.statics y ≡ Some r
+      → slice_index u.symbols x + object_bytes t.word s.object ≤ slice_index u.symbols y
 
--- memory holds words, and the data lie below what the stack may take
+-- a machine, and the data lie below what its stack may take
 pub record IsSoundTarget (t : Target) (u : Image) : Type 0 where
-  pub size : IsWordSize t.word
-  pub memory : t.memory ≤ 2 ^ t.word
-  pub whole : t.memory % (t.word / 8) ≡ 0
+  pub target : IsTarget t
   pub room : t.base + length u.bytes + t.stack ≤ t.memory
-  pub apart : t.sp ≢ t.result
-  pub none_kept : t.kept ≡ []
 
-abbrev pub setting_of : Target → Setting
-setting_of t = record { bits = t.word; stack = t.stack; takes = call_bytes t.word }
+abbrev pub run_of : Target → Typed → List ℕ → Run
+run_of t source input = source_run (setting_of t.kept t.word t.stack) source input
 
 -- on each input of bytes on which nothing undefined is done, the naive code of a sound tree does what its source does
 abbrev pub NaiveIsSame : Type 0
 NaiveIsSame =
-    (t : Target) (m : Fixed) (source : Typed) (u : Image) → IsFixedBy t m → IsSoundTarget t u → is_sound t.word source ≡ true → IsUnitOf t m source u
-    → (input : List ℕ) → AreBytes input → IsClean (setting_of t) source input → Same (source_run (setting_of t) source input) (temporary_run t u input)
+    (t : Target) (m : Fixed) (source : Typed) (u : Image) → IsFixedBy t m → IsSoundTarget t u → is_sound t.kept t.word source ≡ true → IsUnitOf t m source u
+    → (input : List ℕ) → AreBytes input → IsClean (setting_of t.kept t.word t.stack) source input → Same (run_of t source input) (temporary_run t u input)

@@ -39,6 +39,11 @@ alike type.Uchar type.Uchar = true
 alike type.Void type.Void = true
 alike a b = is_word a && is_word b
 
+abbrev pub is_array : Kind → Bool
+is_array missing = false
+is_array (scalar of) = false
+is_array (array of n) = true
+
 -- an expression: its type, and whether it and all in it are sound
 pub record Checked : Type 0 where
   pub of : CType
@@ -110,7 +115,7 @@ module _ (w : ℕ) (t : Typed) (f : Function) where
   abbrev pub checked_by : TypedExpr-F Checked → Bool
   checked_by (Constant h v) = as_type w h.of v == v
   checked_by (Name h x) = alike h.of (type_in (kind_in t f x))
-  checked_by (Element h x i) = i.sound && alike h.of (type_in (kind_in t f x))
+  checked_by (Element h x i) = i.sound && is_array (kind_in t f x) && alike h.of (type_in (kind_in t f x))
   checked_by (Assign h a b) = a.sound && b.sound && alike h.of a.of && alike b.of a.of
   checked_by (Compound h a o b) = a.sound && b.sound && alike h.of a.of && fits_operation o
   checked_by (Before h o a) = a.sound && alike h.of a.of
@@ -193,12 +198,12 @@ abbrev pub is_scalar : Object → Bool
 is_scalar o = is_scalar_by o.length
 
 -- `main` has no parameters, and the 256 bytes that each call leaves suffice for a helper
-abbrev pub is_sound_function : ℕ → Typed → Function → Bool
-is_sound_function w t f =
+abbrev pub is_sound_function : (kept : List ℕ) → ℕ → Typed → Function → Bool
+is_sound_function kept w t f =
     let body = left_of w t f f.body in
     body.sound && not body.breaks && not body.continues && list_all is_scalar f.params
     && (not (is_main f) || nat_le (length f.params) 0)
-    && (not (is_helper f.name) || nat_le (frame_bytes w f + word_bytes w) 256)
+    && (not (is_helper f.name) || nat_le (frame_bytes kept w f + word_bytes w) 256)
 
-abbrev pub is_sound : ℕ → Typed → Bool
-is_sound w t = list_all (is_sound_function w t) t.functions
+abbrev pub is_sound : (kept : List ℕ) → ℕ → Typed → Bool
+is_sound kept w t = list_all (is_sound_function kept w t) t.functions

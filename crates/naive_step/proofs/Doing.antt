@@ -73,3 +73,9 @@ module _ (t : Target) (u : Image) where
   does_on n c Q P (Gives out v s) (comes _ _ _ d to p q) each = comes out v s d to p (each v s d q)
   does_on n c Q P (Cut out) (late _ l) each = late out l
   does_on n c Q P (Fails out why) (any _ _) each = any out why
+
+  -- from where a part has come to the machine goes on
+  pub does_further : {A : Type 0} (n : ℕ) (c : Point) (Q P : A → State → Point → Type 0) (x : Part A) → Does n c Q x → ((v : A) (s : State) (d : Point) → Q v s d → Does n d P (Gives [] v s)) → Does n c P x
+  does_further n c Q P (Gives out v s) (comes _ _ _ d to p q) each = subst (λ o. Does n c P (Gives o v s)) (append-nil out) (does_from n c d P out (Gives [] v s) to p (each v s d q))
+  does_further n c Q P (Cut out) (late _ l) each = late out l
+  does_further n c Q P (Fails out why) (any _ _) each = any out why

@@ -1,2 +1,11 @@
+pub mod Typed
+pub mod Calculating
+pub mod Getting
 pub mod Asked
+pub mod Places
+pub mod Operating
 pub mod Composing
+pub mod Objects
+pub mod Assigning
+pub mod Tests
+pub mod Choosing

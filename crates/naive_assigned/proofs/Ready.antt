@@ -17,7 +17,8 @@ use Rattle.c_limits.specs.Depths.{greatest_in, arguments_of, depth_of}
 use Rattle.c_limits.specs.Frames.{word_bytes, element_bytes, array_in, arrays, scalars, frame_bytes, frame_words}
 use Rattle.c_meaning.specs.Run.{kind_in}
 use Rattle.temp_machine.specs.Routines.{Image, Target}
-use Rattle.temp_machine.specs.Machine.{is_between, is_in_data, is_in_arrays, may_touch, outgoing_to}
+use Rattle.temp_machine.specs.Machine.{is_between, is_in_data, is_in_arrays, is_in_some_arrays, may_touch, params_from, params_to, homes_from, homes_to}
+use Rattle.temp_machine.specs.Cells.{has_temporaries}
 use Rattle.temp_machine.specs.Units.{IsTarget}
 use Rattle.naive_code.specs.Storage.{storage_of, arrays_from}
 use Rattle.naive_code.specs.Functions.{first_home_of, slots_of}
@@ -136,12 +137,19 @@ module _ (t : Target) (u : Image) (m : Fixed) (source : Typed) (f : Function) (k
   reach_arrays : (a : ℕ) → k.base + arrays_from t.kept t.word f ≤ a → a < k.base + frame_bytes t.kept t.word f → may_touch t u (active t u k) k.callers a ≡ true
   reach_arrays a h g =
       let begins = arrays_begin in let ends = ready.expands.frame in
-      or_right _ _ (or_left _ _ (between_true _ _ a (omega (arith, begins, h)) (omega (arith, ends, g))))
+      let low = k.base + (routine_in t u k).first_home + t.word / 8 * (routine_in t u k).slots in
+      let high = k.base + (routine_in t u k).frame in
+      or_right _ _ (or_left _ _ (between_true low high a (omega (arith, begins, h)) (omega (arith, ends, g))))
 
   reach_outgoing : (a : ℕ) → k.base ≤ a → a < k.base + word_bytes t.word * outgoing → may_touch t u (active t u k) k.callers a ≡ true
   reach_outgoing a h g =
       let stand = outgoing_stand in
-      or_right _ _ (or_right _ _ (or_right _ _ (or_left _ _ (between_true _ _ a h (omega (arith, stand, g))))))
+      let high = k.base + (routine_in t u k).first_home - t.word / 8 * (1 + length t.kept) in
+      let c = active t u k in
+      or_right (is_in_data t u a) _ (or_right (is_in_arrays t u c a) _ (or_right (is_in_some_arrays t u k.callers a) _
+      (or_left (is_between k.base high a)
+      (if is_between (params_from t u c) (params_to t u c) a then true else (if has_temporaries (routine_in t u k) then false else is_between (homes_from t u c) (homes_to t u c) a))
+      (between_true k.base high a h (omega (arith, stand, g))))))
 
   in_data : (v : View) (a n : ℕ) → Shows t u k v → t.base ≤ a → a + n ≤ t.base + length u.bytes → a % n ≡ 0 → touched n v (Some a) ≡ Ok a
   in_data v a n s from to aligned =

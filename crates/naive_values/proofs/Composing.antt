@@ -19,7 +19,7 @@ use Rattle.naive_code.specs.Operations as code
 use Rattle.naive_code.specs.Operations.{Op}
 use Rattle.naive_code.specs.Storage.{scalar_count}
 use Rattle.naive_code.specs.Expressions.{Value, leaf, both, then_on, narrowed, negated}
-use Rattle.naive_step.proofs.Doing.{Does, any, does_then, does_on, came}
+use Rattle.naive_step.proofs.Doing.{Does, any, does_then, does_on, does_quietly, came}
 use Rattle.naive_step.proofs.Making.{Call, Inside, At, routine_in}
 use Rattle.naive_assigned.proofs.Ready.{Ready}
 use Rattle.naive_assigned.proofs.Working.{rep_works}
@@ -39,6 +39,11 @@ module _ (t : Target) (u : Image) (m : Fixed) (source : Typed) (f : Function) (k
       does_then t u n c (Has_word t u m source f k ready of (v.result first) first parts.0 c) Q (then_do (x s) demand) y
       (needed_does t u m source f k ready n of (v.result first) first parts.0 c (x s) (does first label p parts.0 c s fresh parts.1 i at rep))
       (λ a s1 d h. on parts.0 d a s1 parts.2 h)
+
+  -- operations that print nothing, and then a part
+  pub to_does : {A : Type 0} (r : Place) (P : Point → Type 0) (Q : A → State → Point → Type 0) (d : Point) (x : Part A) → To t u m source f k ready r P d → ((e : Point) → P e → e.printed ≡ d.printed)
+      → ((e : Point) → Inside t u k e → At t u r e → P e → Does t u n e Q x) → Does t u n d Q x
+  to_does r P Q d x to quiet on = does_quietly t u n d to.point Q x to.comes (quiet to.point to.fact) (on to.point to.inside to.at to.fact)
 
   -- operations have brought a word to a temporary
   pub gave : (by : CType) (result first least spare z : ℕ) (q : Place) (c d : Point) (s : State) → scalar_count f ≤ least → first ≤ least → least ≤ result → least ≤ spare

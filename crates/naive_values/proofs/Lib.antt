@@ -6,6 +6,4 @@ pub mod Places
 pub mod Operating
 pub mod Composing
 pub mod Objects
-pub mod Assigning
-pub mod Tests
-pub mod Choosing
+pub mod Single

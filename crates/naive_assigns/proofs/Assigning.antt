@@ -34,7 +34,7 @@ use Rattle.naive_values.proofs.Getting.{To, Ops, Gets, to_as, to_then, gets_afte
 use Rattle.naive_values.proofs.Asked.{IsFresh, Place_fresh, Stands_for, Since, since_refl, since_trans, since_works, Has, Has_word, HasPlace, Kept, in_temporary, in_word, in_array, ValueDoes, PlaceDoes}
 use Rattle.naive_values.proofs.Places.{Spared, Puts, puts, settles, since_puts}
 use Rattle.naive_values.proofs.Operating.{operated}
-use Rattle.naive_values.proofs.Composing.{value_then}
+use Rattle.naive_values.proofs.Composing.{value_then, to_does}
 use Rattle.naive_values.proofs.Objects.{read_does}
 
 -- the machine's operator for `++` and `--`
@@ -60,11 +60,6 @@ module _ (t : Target) (u : Image) (m : Fixed) (source : Typed) (f : Function) (k
       does_then t u n c (HasPlace t u m source f k ready of p ((opened p).result first) first parts.0 c) Q (x s) y
       (does first label b parts.0 c s fresh parts.1 i at rep)
       (λ a s1 d h. on parts.0 d a s1 parts.2 h)
-
-  -- operations that print nothing, and then a part
-  pub to_does : {A : Type 0} (r : Place) (P : Point → Type 0) (Q : A → State → Point → Type 0) (d : Point) (x : Part A) → To t u m source f k ready r P d → ((e : Point) → P e → e.printed ≡ d.printed)
-      → ((e : Point) → Inside t u k e → At t u r e → P e → Does t u n e Q x) → Does t u n d Q x
-  to_does r P Q d x to quiet on = does_quietly t u n d to.point Q x to.comes (quiet to.point to.fact) (on to.point to.inside to.at to.fact)
 
   -- ---- an element's address stays
 
@@ -226,7 +221,7 @@ module _ (t : Target) (u : Image) (m : Fixed) (source : Typed) (f : Function) (k
         let a = (opened p).result first in
         let parts = stands_split t u m k (narrowed left b spare) (put_into (storage_in p) a b last ++ settled p a b) r' q ops in
         let v = as_type t.word left z in
-        to_does parts.0 (Gets t u m source f k ready b v spare e) (Has t u m source f k ready of (settled_in p a b) first q c) e (write world y z s')
+        to_does t u m source f k ready n parts.0 (Gets t u m source f k ready b v spare e) (Has t u m source f k ready of (settled_in p a b) first q c) e (write world y z s')
         (narrows t u m source f k ready r' parts.0 e i at left b spare z lt small rep.stack holds parts.1) (λ w h. h.works.printed)
         (λ w j at' h.
         let since' = since_trans t u m source f k ready b b d e w (omega arith) since (since_works t u m source f k ready b b spare e w (omega arith) (omega (arith, lt)) h.works) in
@@ -309,7 +304,7 @@ module _ (t : Target) (u : Image) (m : Fixed) (source : Typed) (f : Function) (k
             let end = narrowed left new (v + 4) ++ (put_into (storage_in p) a new (v + 5) ++ settled p a v) in
             let value = h.value in
             let Whole = Has t u m source f k ready of (settled_in p a v) first q c in
-            to_does r2 (SetsTemp new (Some z) e) Whole e (then_do (outcome (step_by t.word left o z) spot s2) (λ r s3. then_do (write world y r s3) (λ _ s4. give (word z) s4)))
+            to_does t u m source f k ready n r2 (SetsTemp new (Some z) e) Whole e (then_do (outcome (step_by t.word left o z) spot s2) (λ r s3. then_do (write world y r s3) (λ _ s4. give (word z) s4)))
             (copies t u m source f k ready r1 r2 e h.inside h.at new v (Some z) one value.0) (λ w b. b.printed)
             (λ w j at' b.
             let steps = stands_split t u m k stepped end r2 q rest in
@@ -322,7 +317,7 @@ module _ (t : Target) (u : Image) (m : Fixed) (source : Typed) (f : Function) (k
             let stored_value = b'.value in
             let parts = stands_split t u m k (narrowed left new (v + 4)) (put_into (storage_in p) a new (v + 5) ++ settled p a v) steps.0 q steps.2 in
             let y' = as_type t.word left z' in
-            to_does parts.0 (Gets t u m source f k ready new y' (v + 4) w') Whole w' (then_do (write world y z' s3) (λ _ s4. give (word z) s4))
+            to_does t u m source f k ready n parts.0 (Gets t u m source f k ready new y' (v + 4) w') Whole w' (then_do (write world y z' s3) (λ _ s4. give (word z) s4))
             (narrows t u m source f k ready steps.0 parts.0 w' b'.inside b'.at left new (v + 4) z' (omega arith) stored_value.2 b'.rep.stack stored_value.0 parts.1) (λ g' h'. h'.works.printed)
             (λ g' j' at'' h'.
             let since2 = since_works t u m source f k ready new new (v + 4) w' g' (omega arith) (omega arith) h'.works in

@@ -36,8 +36,8 @@ use Rattle.naive_assigned.proofs.Working.{Works, rep_works, works_sets}
 use Rattle.naive_values.proofs.Typed.{as_alike, as_word}
 use Rattle.naive_values.proofs.Getting.{To, Ops, to_place, stands_split, sets}
 use Rattle.naive_values.proofs.Asked.{IsFresh, Stands_for, Since, since_refl, since_trans, since_works, Stands_in, Has, Has_word, ValueDoes}
-use Rattle.naive_values.proofs.Assigning.{to_does}
-use Rattle.naive_values.proofs.Calling.{word_size, argument_at, Returned, Made_call, Called, CallsDo, Stored_args, values_of, All_do, Hold, HasArgs, args_do, stores_arguments}
+use Rattle.naive_values.proofs.Composing.{to_does}
+use Rattle.naive_calls.proofs.Calling.{word_size, argument_at, Returned, Made_call, Called, CallsDo, Stored_args, values_of, All_do, Hold, HasArgs, args_do, stores_arguments}
 
 module _ (t : Target) (u : Image) (m : Fixed) (source : Typed) (f : Function) (k : Call) (ready : Ready t u m source f k) where
   abbrev Code : List Op → Place → Place → Type 0

@@ -33,11 +33,11 @@ use Rattle.naive_values.proofs.Typed.{as_word}
 use Rattle.naive_values.proofs.Getting.{Ops, stands_split}
 use Rattle.naive_values.proofs.Asked.{IsFresh, Place_fresh, Stands_for, Since, since_refl, since_trans, since_works, Has, Has_word, HasPlace, demanded, ValueDoes, PlaceDoes}
 use Rattle.naive_values.proofs.Operating.{computed_gets}
-use Rattle.naive_values.proofs.Composing.{value_then}
+use Rattle.naive_values.proofs.Composing.{value_then, to_does}
 use Rattle.naive_values.proofs.Objects.{read_does}
-use Rattle.naive_values.proofs.Assigning.{place_then, next_spared, narrow_finish, world, to_does}
-use Rattle.naive_values.proofs.Calling.{word_size, Called, CallsDo, Stored_args, Hold, stores_arguments}
-use Rattle.naive_values.proofs.Invoking.{works_args, args_count, args_typed, behind_call, Fit}
+use Rattle.naive_assigns.proofs.Assigning.{place_then, next_spared, narrow_finish, world}
+use Rattle.naive_calls.proofs.Calling.{word_size, Called, CallsDo, Stored_args, Hold, stores_arguments}
+use Rattle.naive_calls.proofs.Invoking.{works_args, args_count, args_typed, behind_call, Fit}
 
 -- an operand that stands in a temporary already
 abbrev pub standing : ℕ → Naive

@@ -29,8 +29,8 @@ use Rattle.naive_assigned.proofs.Working.{Works, rep_works, works_sets, works_tr
 use Rattle.naive_values.proofs.Typed.{as_word, as_alike}
 use Rattle.naive_values.proofs.Getting.{To, Ops, to_then, to_as, stands_split, sets_number, copies}
 use Rattle.naive_values.proofs.Asked.{Is_truth, Stands_for, Since, since_refl, since_trans, since_works, Stands_in, Has, had_since, block_at, leaves, reached_at, Tested, Tested_if, Tested_value, Opens_next, ValueDoes, TestDoes}
-use Rattle.naive_values.proofs.Assigning.{to_does}
-use Rattle.naive_values.proofs.Tests.{works_opens, opened_to, closes_at, needed_test}
+use Rattle.naive_values.proofs.Composing.{to_does}
+use Rattle.naive_tests.proofs.Tests.{works_opens, opened_to, closes_at, needed_test}
 
 one_small : (w v : ℕ) → IsWordSize w → v < 2 → v < 2 ^ w
 one_small w v z lt = by_size (λ w. v < 2 ^ w) (omega (arith, lt)) (omega (arith, lt)) w z

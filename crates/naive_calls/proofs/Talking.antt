@@ -41,9 +41,9 @@ use Rattle.naive_rep.proofs.Rep.{Rep, Holds, rep_like, holds_like}
 use Rattle.naive_values.proofs.Typed.{as_word}
 use Rattle.naive_values.proofs.Getting.{To, Ops, Gets, gets_after, sets_number, to_then, to_as, to_place, stands_split}
 use Rattle.naive_values.proofs.Asked.{IsFresh, Stands_for, Since, since_refl, since_trans, since_works, Has, Has_word, ValueDoes}
-use Rattle.naive_values.proofs.Calling.{values_of, All_do, Hold, HasArgs, args_do}
+use Rattle.naive_calls.proofs.Calling.{values_of, All_do, Hold, HasArgs, args_do}
 use Rattle.naive_values.proofs.Operating.{met}
-use Rattle.naive_values.proofs.Invoking.{reads_result}
+use Rattle.naive_calls.proofs.Invoking.{reads_result}
 
 byte_small : (w b : ℕ) → IsWordSize w → b < 256 → b < 2 ^ w
 byte_small w b z lt = by_size (λ w. b < 2 ^ w) (omega (arith, lt)) (omega (arith, lt)) w z

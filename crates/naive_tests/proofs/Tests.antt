@@ -35,8 +35,7 @@ use Rattle.naive_values.proofs.Calculating.{Of_words, words_given, same_value, n
 use Rattle.naive_values.proofs.Typed.{as_word}
 use Rattle.naive_values.proofs.Getting.{To, Ops, stands_split, sets_number}
 use Rattle.naive_values.proofs.Asked.{Any, Is_truth, IsFresh, Stands_for, Since, since_refl, since_trans, since_works, Has, Has_word, block_at, leaves, reached_at, Tested, Tested_if, Tested_value, Opens_next, ValueDoes, TestDoes}
-use Rattle.naive_values.proofs.Composing.{value_then, gave}
-use Rattle.naive_values.proofs.Assigning.{to_does}
+use Rattle.naive_values.proofs.Composing.{value_then, to_does}
 
 -- where a branch by the truth of a word leaves
 zero_leaves : (w : ℕ) (sense : Bool) (v : ℕ) → word_test w (relation_if sense Ne) v 0 ≡ leaves sense v

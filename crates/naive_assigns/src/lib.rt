@@ -1,0 +1,2 @@
+//! Assignments of all kinds: what their code does.
+#![tactic(auto)]

@@ -1,2 +1,3 @@
 pub mod Folds
 pub mod Nodes
+pub mod Expressions

@@ -1,4 +1,4 @@
--- Each expression's code does what the expression does.
+-- What relates an expression and its code; names, elements and assignments.
 use Rattle.std.proofs.Common.{◌≡◌, ◌≢◌, ℕ, zero, suc, ◌+◌, ◌≤◌, ◌<◌, ◌⊎◌, inl, inr, List, [], ◌∷◌, map, Option, Some, None, refl, sym, ap, ◌∙◌, subst, arith}
 use Rattle.std.specs.Prelude.{Bool, true, false, ◌&&◌, not, ◌==◌, max, slice_get, length}
 use Rattle.std.proofs.Math.Nat.{le-max_left, le-max_right}
@@ -58,26 +58,26 @@ array_so (array of n) e = (of, n, refl)
 
 -- ---- results are fresh
 
-leaf_fresh : (os : ℕ → List Op) → IsFresh (leaf os)
+pub leaf_fresh : (os : ℕ → List Op) → IsFresh (leaf os)
 leaf_fresh os = record { from = λ first. omega arith; to = λ first. omega arith }
 
-address_fresh : (s : Storage) (v : Value) → IsFresh v → IsFresh (address_in s v)
+pub address_fresh : (s : Storage) (v : Value) → IsFresh v → IsFresh (address_in s v)
 address_fresh (Elements base of) v h = record { from = h.from; to = λ first. let lt = h.to first in omega (arith, lt) }
 address_fresh (Temporary j) v h = record { from = λ first. omega arith; to = λ first. omega arith }
 address_fresh (Word y) v h = record { from = λ first. omega arith; to = λ first. omega arith }
 address_fresh Missing v h = record { from = λ first. omega arith; to = λ first. omega arith }
 
-element_fresh : (s : Storage) (v : Value) → IsFresh v → IsFresh (read_element s v)
+pub element_fresh : (s : Storage) (v : Value) → IsFresh v → IsFresh (read_element s v)
 element_fresh (Elements base of) v h = record { from = h.from; to = λ first. let lt = h.to first in omega (arith, lt) }
 element_fresh (Temporary j) v h = record { from = λ first. omega arith; to = λ first. omega arith }
 element_fresh (Word y) v h = record { from = λ first. omega arith; to = λ first. omega arith }
 element_fresh Missing v h = record { from = λ first. omega arith; to = λ first. omega arith }
 
 module _ (t : Target) (u : Image) (m : Fixed) (source : Typed) (f : Function) (k : Active) (ready : Ready t u m source f k) (n : ℕ) (call : SourceCalls) (calls : CallsDo t u m source f k ready n call) where
-  abbrev Values : CType → (State → Part Result) → Value → Type 0
+  abbrev pub Values : CType → (State → Part Result) → Value → Type 0
   Values = ValueDoes t u m source f k ready n
 
-  abbrev Tests_any : (State → Part Result) → Test → Type 0
+  abbrev pub Tests_any : (State → Part Result) → Test → Type 0
   Tests_any = TestDoes t u m source f k ready n Any
 
   abbrev Fresh_place : Designated → Type 0
@@ -86,10 +86,10 @@ module _ (t : Target) (u : Image) (m : Fixed) (source : Typed) (f : Function) (k
   abbrev Opens_test : Test → Type 0
   Opens_test = Opens_next t u m source f k ready
 
-  abbrev here_world : World
+  abbrev pub here_world : World
   here_world = world t u m source f k ready n call
 
-  abbrev room : ℕ
+  abbrev pub room : ℕ
   room = outgoing t u m source f k ready
 
   -- of a sound expression whose calls have no more arguments than there are words for
@@ -103,14 +103,14 @@ module _ (t : Target) (u : Image) (m : Fixed) (source : Typed) (f : Function) (k
     pub test : c.sound ≡ true → arguments ≤ room → Tests_any e.value v.test
     pub place : c.sound ≡ true → arguments ≤ room → PlaceDoes t u m source f k ready n e.of e.lvalue v.place
 
-  abbrev Quad : Type 0
+  abbrev pub Quad : Type 0
   Quad = Four Evaluation Naive Checked ℕ Related
 
   no_place : (of : CType) (h : Head) → PlaceDoes t u m source f k ready n of (no_lvalue h) nowhere
   no_place of h first label p q c s fresh ops i at rep = any [] _
 
   -- of most nodes the test is that of the value
-  plain_related : (h : Head) (x : State → Part Result) (v : Value) (c : Checked) (arguments : ℕ) → c.of ≡ h.of → IsFresh v → (c.sound ≡ true → arguments ≤ room → Values h.of x v)
+  pub plain_related : (h : Head) (x : State → Part Result) (v : Value) (c : Checked) (arguments : ℕ) → c.of ≡ h.of → IsFresh v → (c.sound ≡ true → arguments ≤ room → Values h.of x v)
       → Related (source_plain h x) (plain h.of v) c arguments
   plain_related h x v c arguments of fresh does = record {
     naive_of = refl;
@@ -124,7 +124,7 @@ module _ (t : Target) (u : Image) (m : Fixed) (source : Typed) (f : Function) (k
   }
 
   -- of others it is one of its own
-  logical_related : (h : Head) (x : State → Part Result) (v : Value) (e : Test) (c : Checked) (arguments : ℕ) → c.of ≡ h.of → IsFresh v → Opens_test e → (c.sound ≡ true → arguments ≤ room → Values h.of x v)
+  pub logical_related : (h : Head) (x : State → Part Result) (v : Value) (e : Test) (c : Checked) (arguments : ℕ) → c.of ≡ h.of → IsFresh v → Opens_test e → (c.sound ≡ true → arguments ≤ room → Values h.of x v)
       → (c.sound ≡ true → arguments ≤ room → Tests_any x e) → Related (source_plain h x) (logical_value h.of v e) c arguments
   logical_related h x v e c arguments of fresh opens does tests = record {
     naive_of = refl;
@@ -139,7 +139,7 @@ module _ (t : Target) (u : Image) (m : Fixed) (source : Typed) (f : Function) (k
 
   -- ---- names
 
-  name_related : (h : Head) (x : Variable) → Related (expression here_world (Object h x)) (naive_node (site_of t.kept t.word source f) (Object h x))
+  pub name_related : (h : Head) (x : Variable) → Related (expression here_world (Object h x)) (naive_node (site_of t.kept t.word source f) (Object h x))
       (record { of = h.of; sound = alike h.of (type_in (kind_in source f x)) }) 0
   name_related h x = record {
     naive_of = refl;
@@ -182,7 +182,7 @@ module _ (t : Target) (u : Image) (m : Fixed) (source : Typed) (f : Function) (k
         (subst (λ g. PlaceDoes t u m source f k ready n h.of (λ s. then_do (then_do (i.0.value s) demand) (element_of g t.word i.0.of h x)) (element (Elements b.0 a.0) i.1.value)) (sym a.2)
         (element_place t u m source f k ready n h x a.0 a.1 b.0 a.2 b.1 same i.0.of i.0.value i.1.value i.4.fresh (i.4.value parts.0 few)))
 
-    element_related : Related (expression here_world (Element h x i.0)) (naive_node (site_of t.kept t.word source f) (Element h x i.1)) (record { of = h.of; sound = index_sound }) i.3
+    pub element_related : Related (expression here_world (Element h x i.0)) (naive_node (site_of t.kept t.word source f) (Element h x i.1)) (record { of = h.of; sound = index_sound }) i.3
     element_related = record {
       naive_of = refl;
       checked_of = refl;
@@ -217,7 +217,7 @@ module _ (t : Target) (u : Image) (m : Fixed) (source : Typed) (f : Function) (k
           let to = fresh_v.to (first + (opened p).temps) in
           settled_fresh p fresh_p first (v.result (first + (opened p).temps)) (v.temps + 1) (omega (arith, from)) (omega (arith, to))
 
-  compound_fresh : (bytes : ℕ) (o : Operation) (of by : CType) (p : Designated) (v : Value) → Fresh_place p → IsFresh (compound bytes o of p by v)
+  pub compound_fresh : (bytes : ℕ) (o : Operation) (of by : CType) (p : Designated) (v : Value) → Fresh_place p → IsFresh (compound bytes o of p by v)
   compound_fresh bytes o of by p v fresh_p = record {
     from = λ first. (settled first).0;
     to = λ first. let lt = (settled first).1 in omega (arith, lt);
@@ -226,7 +226,7 @@ module _ (t : Target) (u : Image) (m : Fixed) (source : Typed) (f : Function) (k
       settled : (first : ℕ) → Settled_in p first (first + (opened p).temps) (2 + v.temps + 2)
       settled first = settled_fresh p fresh_p first (first + (opened p).temps) (2 + v.temps + 2) (omega arith) (omega arith)
 
-  before_fresh : (o : StepOperator) (of : CType) (p : Designated) → Fresh_place p → IsFresh (stepped_before o of p)
+  pub before_fresh : (o : StepOperator) (of : CType) (p : Designated) → Fresh_place p → IsFresh (stepped_before o of p)
   before_fresh o of p fresh_p = record {
     from = λ first. (settled first).0;
     to = λ first. let lt = (settled first).1 in omega (arith, lt);
@@ -235,7 +235,7 @@ module _ (t : Target) (u : Image) (m : Fixed) (source : Typed) (f : Function) (k
       settled : (first : ℕ) → Settled_in p first (first + (opened p).temps) 5
       settled first = settled_fresh p fresh_p first (first + (opened p).temps) 5 (omega arith) (omega arith)
 
-  after_fresh : (o : StepOperator) (of : CType) (p : Designated) → Fresh_place p → IsFresh (stepped_after o of p)
+  pub after_fresh : (o : StepOperator) (of : CType) (p : Designated) → Fresh_place p → IsFresh (stepped_after o of p)
   after_fresh o of p fresh_p = record {
     from = λ first. (settled first).0;
     to = λ first. let lt = (settled first).1 in omega (arith, lt);
@@ -244,13 +244,13 @@ module _ (t : Target) (u : Image) (m : Fixed) (source : Typed) (f : Function) (k
       settled : (first : ℕ) → Settled_in p first (first + (opened p).temps) 6
       settled first = settled_fresh p fresh_p first (first + (opened p).temps) 6 (omega arith) (omega arith)
 
-  left_few : (a b : ℕ) → max a b ≤ room → a ≤ room
+  pub left_few : (a b : ℕ) → max a b ≤ room → a ≤ room
   left_few a b le = let h = le-max_left a b in omega (arith, h, le)
 
-  right_few : (a b : ℕ) → max a b ≤ room → b ≤ room
+  pub right_few : (a b : ℕ) → max a b ≤ room → b ≤ room
   right_few a b le = let h = le-max_right a b in omega (arith, h, le)
 
-  assign_related : (h : Head) (a b : Quad) → Related (expression here_world (Assign h a.0 b.0)) (naive_node (site_of t.kept t.word source f) (Assign h a.1 b.1))
+  pub assign_related : (h : Head) (a b : Quad) → Related (expression here_world (Assign h a.0 b.0)) (naive_node (site_of t.kept t.word source f) (Assign h a.1 b.1))
       (record { of = h.of; sound = a.2.sound && b.2.sound && alike h.of a.2.of && alike b.2.of a.2.of }) (max a.3 b.3)
   assign_related h a b =
       plain_related h _ (assigned a.1.place b.1.value) _ (max a.3 b.3) refl (assigned_fresh a.1.place b.1.value a.4.place_fresh b.4.fresh)

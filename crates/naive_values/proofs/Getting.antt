@@ -229,4 +229,4 @@ module _ (t : Target) (u : Image) (m : Fixed) (source : Typed) (f : Function) (k
           (sets s r e j at (shape.Operate op.Add) (on_two v a) v (Binary op.Add (Read (Temp v)) (Read (Temp a))) (Some (address_of t u k base + element_bytes t.word of * x)) one refl refl
           (seen_two t.word op.Add v a (element_bytes t.word of * x) (address_of t u k base) _ e.view index is
           (ap Ok (mod-eq_of_lt (let lt : element_bytes t.word of * x + address_of t u k base < 2 ^ t.word = omega (arith, small) in lt)
-          ∙ ap Ok (let same : element_bytes t.word of * x + address_of t u k base ≡ address_of t u k base + element_bytes t.word of * x = omega arith in same))))))
+          ∙ (let same : element_bytes t.word of * x + address_of t u k base ≡ address_of t u k base + element_bytes t.word of * x = omega arith in same))))))

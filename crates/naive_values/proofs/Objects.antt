@@ -38,17 +38,17 @@ use Rattle.naive_values.proofs.Asked.{IsFresh, Stands_for, Since, since_refl, si
 use Rattle.naive_values.proofs.Places.{Spared, gets_kept, array_area, array_has}
 use Rattle.naive_values.proofs.Composing.{value_then}
 
+both_lt : (length i : ℕ) (a b : Bool) → nat_lt i length ≡ a → (a && b) ≡ true → i < length
+both_lt length i true b p g = grind (arith, nat_tests, p)
+both_lt length i false b p g = absurd (grind (arith, g))
+
 -- an index that is inside is below the length
 inside_lt : (w : ℕ) (of : CType) (length i : ℕ) → is_inside w of length i ≡ true → i < length
 inside_lt w type.Unsigned length i e = grind (arith, nat_tests, e)
-inside_lt w type.Schar length i e = both_lt (nat_lt i length) (nat_lt i (2 ^ (w - 1))) refl e
-  where
-    both_lt : (a b : Bool) → nat_lt i length ≡ a → (a && b) ≡ true → i < length
-    both_lt true b p g = grind (arith, nat_tests, p)
-    both_lt false b p g = absurd (grind (arith, g))
-inside_lt w type.Uchar length i e = inside_lt w type.Schar length i e
-inside_lt w type.Int length i e = inside_lt w type.Schar length i e
-inside_lt w type.Void length i e = inside_lt w type.Schar length i e
+inside_lt w type.Schar length i e = both_lt length i (nat_lt i length) (nat_lt i (2 ^ (w - 1))) refl e
+inside_lt w type.Uchar length i e = both_lt length i (nat_lt i length) (nat_lt i (2 ^ (w - 1))) refl e
+inside_lt w type.Int length i e = both_lt length i (nat_lt i length) (nat_lt i (2 ^ (w - 1))) refl e
+inside_lt w type.Void length i e = both_lt length i (nat_lt i length) (nat_lt i (2 ^ (w - 1))) refl e
 
 module _ (t : Target) (u : Image) (m : Fixed) (source : Typed) (f : Function) (k : Call) (ready : Ready t u m source f k) (n : ℕ) where
   abbrev Code : List Op → Place → Place → Type 0

@@ -33,7 +33,10 @@ abbrev number_in : ℕ → Result ℕ Trap → ℕ
 number_in n (Ok v) = v
 number_in n (Err e) = n
 
-same_number : (v z : ℕ) → Ok v ≡ Ok z → v ≡ z
+abbrev pub ok : ℕ → Result ℕ Trap
+ok v = Ok v
+
+pub same_number : (v z : ℕ) → ok v ≡ ok z → v ≡ z
 same_number v z e = ap (number_in v) e
 
 module _ (t : Target) (u : Image) (m : Fixed) (source : Typed) (f : Function) (k : Call) (ready : Ready t u m source f k) where

@@ -37,7 +37,7 @@ use Rattle.naive_values.proofs.Composing.{value_then, to_does}
 use Rattle.naive_values.proofs.Objects.{read_does}
 use Rattle.naive_assigns.proofs.Assigning.{place_then, next_spared, narrow_finish, world}
 use Rattle.naive_calls.proofs.Calling.{word_size, Called, CallsDo, Stored_args, Hold, stores_arguments}
-use Rattle.naive_calls.proofs.Invoking.{works_args, args_count, args_typed, behind_call, Fit}
+use Rattle.naive_calls.proofs.Invoking.{works_args, word_stored, args_count, args_typed, behind_call, Fit}
 
 -- an operand that stands in a temporary already
 abbrev pub standing : ℕ → Naive
@@ -84,7 +84,7 @@ module _ (t : Target) (u : Image) (m : Fixed) (source : Typed) (f : Function) (k
         at = at';
         rep = rep';
         count = args_count t u m source f k ready n call calls ℕ an_int standing (a ∷ b ∷ []) helps.helper.params 0 (x ∷ y ∷ []) c (helps.fit a b) hold;
-        words = λ i v got. g'.words i v got;
+        words = word_stored t u m source f k ready (x ∷ y ∷ []) c e g';
         typed = λ i v o got_o got. args_typed t u m source f k ready n call calls ℕ an_int standing (a ∷ b ∷ []) helps.helper.params 0 (x ∷ y ∷ []) c (helps.fit a b) hold i v o got_o got;
       }))
       (λ v s2 w b'. behind_call t u m source f k ready n call calls type.Int helps.helper.result a a r2 q r3 c e v s2 w helps.result fresh (omega arith) next_is

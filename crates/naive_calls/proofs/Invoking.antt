@@ -44,7 +44,7 @@ module _ (t : Target) (u : Image) (m : Fixed) (source : Typed) (f : Function) (k
   Code = Ops t u m source f k ready
 
   -- what arguments that are stored leave
-  works_args : (first : ℕ) (vs : List ℕ) (c d : Point) → Stored_args t u m source f k ready 0 vs c d → Works t u m source f k first first c d
+  pub works_args : (first : ℕ) (vs : List ℕ) (c d : Point) → Stored_args t u m source f k ready 0 vs c d → Works t u m source f k first first c d
   works_args first vs c d g = record {
     temps = λ j lt ne. g.temps j;
     stack = g.regs t.sp;
@@ -57,6 +57,10 @@ module _ (t : Target) (u : Image) (m : Fixed) (source : Typed) (f : Function) (k
       outside b (inl lt) = inl (omega (arith, lt))
       outside b (inr le) = inr le
 
+  pub word_stored : (vs : List ℕ) (c d : Point) → Stored_args t u m source f k ready 0 vs c d → (i v : ℕ) → slice_get vs i ≡ Some v
+      → word_at d.view.bytes (argument_at t u m source f k ready i) (t.word / 8) ≡ Some v
+  word_stored vs c d g i v is = ap (λ j. word_at d.view.bytes (argument_at t u m source f k ready j) (t.word / 8)) (let z : i ≡ 0 + i = omega arith in z) ∙ g.words i v is
+
   since_called : (first : ℕ) (of : CType) (p : Place) (c d : Point) (v : Result) (s : State) → Called t u m source f k ready of p c v s d → Since t u m source f k ready first c d
   since_called first of p c d v s g = record { temps = λ j from below. g.temps j; above = g.above }
 
@@ -65,14 +69,14 @@ module _ (t : Target) (u : Image) (m : Fixed) (source : Typed) (f : Function) (k
   returned_in of by a (word v) d e same h is = (is ∙ h.0, as_alike t.word of by v same ∙ h.1, h.2)
   returned_in of by a (absent at) d e same h is = tt
 
-  reads_result : (a : ℕ) (p q : Place) (c : Point) → Inside t u k c → At t u p c → Code (code.read_result a ∷ []) p q → To t u m source f k ready q (SetsTemp a (c.view.cells (Hard t.result)) c) c
+  pub reads_result : (a : ℕ) (p q : Place) (c : Point) → Inside t u k c → At t u p c → Code (code.read_result a ∷ []) p q → To t u m source f k ready q (SetsTemp a (c.view.cells (Hard t.result)) c) c
   reads_result a p q c i h (r, one, last) =
       to_place t u m source f k ready r q _ c last
       (sets t u m source f k ready p r c i h shape.ReadResult (on_two a a) a (Read (Hard m.result)) (c.view.cells (Hard t.result)) one refl refl (ap (λ n. Ok (c.view.cells (Hard n))) ready.fixed.result))
 
   module _ (n : ℕ) (call : SourceCalls) (calls : CallsDo t u m source f k ready n call) where
     -- behind the call its result is read
-    behind_call : (of by : CType) (a first : ℕ) (p q r : Place) (c d : Point) (v : Result) (s : State) (e : Point) → alike of by ≡ true → scalar_count f ≤ first → first ≤ a → r ≡ begin_of (suc p.block)
+    pub behind_call : (of by : CType) (a first : ℕ) (p q r : Place) (c d : Point) (v : Result) (s : State) (e : Point) → alike of by ≡ true → scalar_count f ≤ first → first ≤ a → r ≡ begin_of (suc p.block)
         → Since t u m source f k ready first c d → Called t u m source f k ready by p d v s e → Code (code.read_result a ∷ []) r q → Does t u n e (Has t u m source f k ready of a first q c) (give v s)
     behind_call of by a first p q r c d v s e same fresh le last since g ops =
         to_does t u m source f k ready n q (SetsTemp a (e.view.cells (Hard t.result)) e) (Has t u m source f k ready of a first q c) e (give v s)
@@ -100,7 +104,7 @@ module _ (t : Target) (u : Image) (m : Fixed) (source : Typed) (f : Function) (k
       Fit (x ∷ xs) [] = ⊥
       Fit (x ∷ xs) (o ∷ os) = (alike (ev x).of o.element ≡ true) × Fit xs os
 
-      args_count : (xs : List X) (os : List Object) (first : ℕ) (vs : List ℕ) (d : Point) → Fit xs os → Hold t u m source f k ready X ev nv xs first vs d → length vs ≡ length os
+      pub args_count : (xs : List X) (os : List Object) (first : ℕ) (vs : List ℕ) (d : Point) → Fit xs os → Hold t u m source f k ready X ev nv xs first vs d → length vs ≡ length os
       args_count [] [] first [] d fit h = refl
       args_count [] [] first (v ∷ vs) d fit h = absurd h
       args_count [] (o ∷ os) first vs d fit h = absurd fit
@@ -108,7 +112,7 @@ module _ (t : Target) (u : Image) (m : Fixed) (source : Typed) (f : Function) (k
       args_count (x ∷ xs) (o ∷ os) first [] d fit h = absurd h
       args_count (x ∷ xs) (o ∷ os) first (v ∷ vs) d fit h = ap suc (args_count xs os (first + (nv x).value.temps) vs d fit.1 h.1)
 
-      args_typed : (xs : List X) (os : List Object) (first : ℕ) (vs : List ℕ) (d : Point) → Fit xs os → Hold t u m source f k ready X ev nv xs first vs d → (i v : ℕ) (o : Object) → slice_get os i ≡ Some o → slice_get vs i ≡ Some v
+      pub args_typed : (xs : List X) (os : List Object) (first : ℕ) (vs : List ℕ) (d : Point) → Fit xs os → Hold t u m source f k ready X ev nv xs first vs d → (i v : ℕ) (o : Object) → slice_get os i ≡ Some o → slice_get vs i ≡ Some v
           → (as_type t.word o.element v ≡ v) × (v < 2 ^ t.word)
       args_typed [] [] first vs d fit h i v o is e = absurd (grind (arith, is))
       args_typed [] (o' ∷ os) first vs d fit h i v o is e = absurd fit
@@ -140,7 +144,7 @@ module _ (t : Target) (u : Image) (m : Fixed) (source : Typed) (f : Function) (k
           by_call vs s1 d r r1 b stores (r2, (z, ((transfer, item, callee), z_is), found, next_is), rest) =
               let a = first + (arguments (vals xs)).temps in
               to_does t u m source f k ready n r1 (Stored_args t u m source f k ready 0 vs d) (Has t u m source f k ready of a first q c) d (call spot g vs s1)
-              (stores_arguments t u m source f k ready X ev nv xs 0 first vs r r1 d room b.inside b.at b.rep.stack b.hold stores) (λ e h'. h'.printed)
+              (stores_arguments t u m source f k ready X ev nv xs 0 first vs r r1 d (let z : 0 + length xs ≤ outgoing t u m source f k ready = omega (arith, room) in z) b.inside b.at b.rep.stack b.hold stores) (λ e h'. h'.printed)
               (λ e j at' h'.
               let works = works_args first vs d e h' in
               let rep' = rep_works t u m source f k ready first first d e fresh fresh works s1 b.rep in
@@ -156,7 +160,7 @@ module _ (t : Target) (u : Image) (m : Fixed) (source : Typed) (f : Function) (k
                 at = at';
                 rep = rep';
                 count = args_count xs h.params first vs d fit b.hold;
-                words = λ i v got. h'.words i v got;
+                words = word_stored vs d e h';
                 typed = λ i v o got_o got. args_typed xs h.params first vs d fit b.hold i v o got_o got;
               }))
               (λ v s2 w g'. behind_call of h.result a first r1 q r2 c e v s2 w same fresh (omega arith) next_is since g' rest))

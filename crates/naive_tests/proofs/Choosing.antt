@@ -44,7 +44,7 @@ module _ (t : Target) (u : Image) (m : Fixed) (source : Typed) (f : Function) (k
     temp : d.view.cells (Temp a) ≡ x
     works : Works t u m source f k a a c d
 
-  falls_to : (l : ℕ) (p q r : Place) (c : Point) → Inside t u k c → At t u p c → One t.word m (routine_in t u k) (Close Falls l) p q → r ≡ q → To t u m source f k ready r (Opens c) c
+  pub falls_to : (l : ℕ) (p q r : Place) (c : Point) → Inside t u k c → At t u p c → One t.word m (routine_in t u k) (Close Falls l) p q → r ≡ q → To t u m source f k ready r (Opens c) c
   falls_to l p q r c i h one last =
       opened_to t u m source f k ready n (suc p.block) r c (last ∙ closed_at t u m k ready.fits Falls l p q one) (close_falls t u m k ready.fits l p q c i h one)
 
@@ -100,7 +100,7 @@ module _ (t : Target) (u : Image) (m : Fixed) (source : Typed) (f : Function) (k
 
   -- ---- `?:` (C11 6.5.15)
 
-  jumps_to : (to l : ℕ) (p q r : Place) (c : Point) → Inside t u k c → At t u p c → One t.word m (routine_in t u k) (Close (Jumps to) l) p q → r ≡ begin_of (block_at t u m source f k ready to)
+  pub jumps_to : (to l : ℕ) (p q r : Place) (c : Point) → Inside t u k c → At t u p c → One t.word m (routine_in t u k) (Close (Jumps to) l) p q → r ≡ begin_of (block_at t u m source f k ready to)
       → To t u m source f k ready r (Opens c) c
   jumps_to to l p q r c i h one last = opened_to t u m source f k ready n (block_at t u m source f k ready to) r c last (close_jumps t u m k ready.fits to l p q c i h one)
 

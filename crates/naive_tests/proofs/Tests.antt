@@ -130,7 +130,7 @@ module _ (t : Target) (u : Image) (m : Fixed) (source : Typed) (f : Function) (k
       after parts.0 parts.2
     where
       after : (r : Place) → Code (code.constant (first + v.temps) 0 ∷ Close (Branches (relation_if sense Ne) (v.result first) (first + v.temps) target) next ∷ []) r q → q ≡ begin_of (block_at t u m source f k ready next)
-      after r (r1, one, (r2, two, last)) = last ∙ closes_at _ next r1 r2 two
+      after r (r1, one, (r2, two, last)) = last ∙ closes_at (Branches (relation_if sense Ne) (v.result first) (first + v.temps) target) next r1 r2 two
 
   -- two values are compared
   pub compared_does : (ty left right : CType) (r un : Rel) (spot : Spot) (x y : State → Part Result) (a b : Value) → IsFresh a → IsFresh b → ValueDoes t u m source f k ready n left x a → ValueDoes t u m source f k ready n right y b
@@ -176,11 +176,11 @@ module _ (t : Target) (u : Image) (m : Fixed) (source : Typed) (f : Function) (k
       after second.0 second.2
     where
       after : (z : Place) → Code (Close (Branches (relation_if sense r) (a.result first) (b.result (first + a.temps)) target) next ∷ []) z q → q ≡ begin_of (block_at t u m source f k ready next)
-      after z (z1, one, last) = last ∙ closes_at _ next z z1 one
+      after z (z1, one, last) = last ∙ closes_at (Branches (relation_if sense r) (a.result first) (b.result (first + a.temps)) target) next z z1 one
 
   -- ---- `&&`, `||`, `!` and the comma
 
-  needed_test : (P : Result → Type 0) (sense : Bool) (target first : ℕ) (q : Place) (c : Point) (x : Part Result) → Does t u n c (Tested_value t u m source f k ready P sense target first q c) x
+  pub needed_test : (P : Result → Type 0) (sense : Bool) (target first : ℕ) (q : Place) (c : Point) (x : Part Result) → Does t u n c (Tested_value t u m source f k ready P sense target first q c) x
       → Does t u n c (λ v. Tested_value t u m source f k ready P sense target first q c (word v)) (then_do x demand)
   needed_test P sense target first q c x h = does_then t u n c (Tested_value t u m source f k ready P sense target first q c) _ x demand h each
     where

@@ -160,4 +160,4 @@ module _ (t : Target) (u : Image) (m : Fixed) (source : Typed) (f : Function) (k
       (λ z4 s4 d4 h4.
       let new = h4.value in
       narrow_finish t u m source f k ready n call of left p y first v spare (spare + 1) z4 r q c d d4 s1 fresh fresh_p (omega arith) (omega arith) (omega arith) same g
-      (since_trans t u m source f k ready v v d d2 d4 (omega arith) h.since (since_trans t u m source f k ready v later d2 d3 d4 (omega arith) h3.since h4.since)) split.0 s4 h4.inside h4.at h4.rep new.0 new.2 split.2))))
+      (since_trans t u m source f k ready v v d d2 d4 (omega arith) h.since (since_trans t u m source f k ready v v d2 d3 d4 (omega arith) (since_trans t u m source f k ready v later d2 d2 d3 (omega arith) (since_refl t u m source f k ready v d2) h3.since) h4.since)) split.0 s4 h4.inside h4.at h4.rep new.0 new.2 split.2))))

@@ -55,6 +55,9 @@ not_so : (b : Bool) → not b ≡ true → b ≡ false
 not_so true e = absurd (grind (arith, e))
 not_so false e = refl
 
+not_false : {A : Type 0} → false ≡ true → A
+not_false e = absurd (grind (arith, e))
+
 map_length : {A B : Type 0} (g : A → B) (xs : List A) → length (map g xs) ≡ length xs
 map_length g [] = refl
 map_length g (x ∷ xs) = ap suc (map_length g xs)
@@ -212,11 +215,11 @@ module _ (t : Target) (u : Image) (m : Fixed) (source : Typed) (f : Function) (k
         (a.4.value (pair_so sound).0 (first_few few)) (b.4.value (pair_so sound).1.0 (second_few few)))
     by_sort (logical true) =
         truth_related (source_two W a.0.of h (logical true) a.0 b.0) (in_turn true a.1.test b.1.test)
-        (in_turn_opens t u m source f k ready n Any Any a.0.value b.0.value a.1.test b.1.test b.4.opens true)
+        (in_turn_opens t u m source f k ready n true a.1.test b.1.test b.4.opens)
         (λ sound few. and_does t u m source f k ready n Any Any a.0.value b.0.value a.1.test b.1.test b.4.opens (a.4.test (pair_so sound).0 (first_few few)) (b.4.test (pair_so sound).1.0 (second_few few)))
     by_sort (logical false) =
         truth_related (source_two W a.0.of h (logical false) a.0 b.0) (in_turn false a.1.test b.1.test)
-        (in_turn_opens t u m source f k ready n Any Any a.0.value b.0.value a.1.test b.1.test b.4.opens false)
+        (in_turn_opens t u m source f k ready n false a.1.test b.1.test b.4.opens)
         (λ sound few. or_does t u m source f k ready n Any Any a.0.value b.0.value a.1.test b.1.test b.4.opens (a.4.test (pair_so sound).0 (first_few few)) (b.4.test (pair_so sound).1.0 (second_few few)))
     by_sort (compares r un) =
         truth_related (source_two W a.0.of h (compares r un) a.0 b.0) (compared (relation_in a.0.of r un) a.1.value b.1.value) (compared_opens t u m source f k ready n (relation_in a.0.of r un) a.1.value b.1.value)
@@ -294,9 +297,10 @@ module _ (t : Target) (u : Image) (m : Fixed) (source : Typed) (f : Function) (k
           call_does t u m source f k ready n call calls Q evaluation_in naive_in h.at g w h.of es is caller p.0 (fit_of Q evaluation_in naive_in (λ e. e.2) (λ x. x.4.checked_of) es w.params p.1)
           (omega (arith, count, same)) (quads_do es w.params p.1 (right_few t u m source f k ready n call calls (length (map (λ e. e.3) es)) (greatest (map (λ e. e.3) es)) few))
   call_value h callee.Getchar [] e few = takes_character t u m source f k ready n h.of (both_so _ _ e).0
-  call_value h callee.Getchar (x ∷ es) e few = absurd (let p = (both_so _ _ e).1 in grind (arith, p))
-  call_value h callee.Putchar [] e few = absurd (let p = (both_so _ _ e).1 in grind (arith, p))
-  call_value h callee.Putchar (x ∷ y ∷ es) e few = absurd (let p = (both_so _ _ (both_so _ _ e).1).1 in grind (arith, p))
+  call_value h callee.Getchar (x ∷ es) e few = not_false ((both_so (is_word h.of) (are_words 0 (x.2 ∷ map (λ e. e.2) es)) e).1)
+  call_value h callee.Putchar [] e few = not_false ((both_so (is_word h.of) (are_words 1 []) e).1)
+  call_value h callee.Putchar (x ∷ y ∷ es) e few =
+      not_false ((both_so (x.2.sound && is_word x.2.of) (are_words 0 (y.2 ∷ map (λ e. e.2) es)) ((both_so (is_word h.of) (are_words 1 (x.2 ∷ y.2 ∷ map (λ e. e.2) es)) e).1)).1)
   call_value h callee.Putchar (x ∷ []) e few =
       let p = both_so _ _ e in let q = both_so _ _ p.1 in let r = both_so _ _ q.0 in
       let less = right_few t u m source f k ready n call calls 1 (max x.3 0) few in
@@ -307,10 +311,10 @@ module _ (t : Target) (u : Image) (m : Fixed) (source : Typed) (f : Function) (k
   call_related h g es = plain_related t u m source f k ready n call calls h _ (call_of bytes g (map (λ e. e.value) (map (λ e. e.1) es))) _ _ refl (fresh g es) (call_value h g es)
     where
       fresh : (g : Callee) (es : List Q) → IsFresh (call_of bytes g (map (λ e. e.value) (map (λ e. e.1) es)))
-      fresh (callee.Defined g) es = called_fresh bytes g _
-      fresh callee.Getchar es = leaf_fresh _
-      fresh callee.Putchar [] = leaf_fresh _
-      fresh callee.Putchar (x ∷ es) = then_fresh x.1.value 1 (λ d. (d + 1) ∷ []) _ x.4.fresh
+      fresh (callee.Defined g) es = called_fresh bytes g (map (λ e. e.value) (map (λ e. e.1) es))
+      fresh callee.Getchar es = leaf_fresh (λ a. code.take_input ∷ code.read_result a ∷ [])
+      fresh callee.Putchar [] = leaf_fresh (λ a. [])
+      fresh callee.Putchar (x ∷ es) = then_fresh x.1.value 1 (λ d. (d + 1) ∷ []) (λ v a. code.set_result v ∷ code.put_output ∷ code.constant a 255 ∷ code.Meet v a ∷ []) x.4.fresh
 
   -- ---- all of them
 

@@ -22,11 +22,13 @@ use Rattle.naive_code.specs.Expressions.{Value, Test, Site}
 use Rattle.naive_code.specs.Statements.{Around, Steps, dropped, used, leaving, if_steps, joined}
 use Rattle.naive_run.specs.Sound.{alike}
 use Rattle.naive_run.specs.Standing.{shaped, One}
-use Rattle.naive_step.proofs.Doing.{Does, does_then, does_further, does_on, there, came}
+use Rattle.behaviour.specs.Steps.{Comes, Leads}
+use Rattle.behaviour.proofs.Stepping.{leads_comes}
+use Rattle.naive_step.proofs.Doing.{M, Does, does_then, does_further, does_on, there, came}
 use Rattle.naive_step.proofs.Making.{Call, Inside, At, routine_in}
 use Rattle.naive_step.proofs.Acts.{SetsReg, set_reg}
 use Rattle.naive_step.proofs.Ways.{make_has}
-use Rattle.naive_step.proofs.Ends.{Opens, begin_of}
+use Rattle.naive_step.proofs.Ends.{Opens, Opened, begin_of, close_jumps}
 use Rattle.naive_assigned.proofs.Ready.{Ready}
 use Rattle.naive_rep.proofs.Rep.{rep_like}
 use Rattle.naive_values.proofs.Typed.{as_alike}
@@ -35,7 +37,7 @@ use Rattle.naive_values.proofs.Asked.{Stands_for, Since, Has, Tested, Tested_val
 use Rattle.naive_values.proofs.Composing.{value_then, to_does}
 use Rattle.naive_tests.proofs.Tests.{needed_test, closes_at}
 use Rattle.naive_tests.proofs.Choosing.{falls_to, jumps_to}
-use Rattle.naive_statements.proofs.Asked.{Above, Past, Back, After, past_since, after_since, StepsDo, past_opens}
+use Rattle.naive_statements.proofs.Asked.{Above, Way_from, Past, Back, After, after_since, with_way, StepsDo, past_opens}
 
 module _ (t : Target) (u : Image) (m : Fixed) (source : Typed) (f : Function) (k : Call) (ready : Ready t u m source f k) (n : ℕ) where
   abbrev Code : List Op → Place → Place → Type 0
@@ -52,26 +54,24 @@ module _ (t : Target) (u : Image) (m : Fixed) (source : Typed) (f : Function) (k
 
   -- ---- jumps
 
-  left_to : (fl : Flow) (a : Around) (q to : Place) (c : Point) (s : State) → ((d : Point) → Past t u m source f k ready to c s d → After t u m source f k ready a q c fl s d) → Inside t u k c → Stands_for t u m source f k ready s c
-      → To t u m source f k ready to (Opens c) c → Does t u n c (After t u m source f k ready a q c) (give fl s)
-  left_to fl a q to c s each i rep r =
-      to_does t u m source f k ready n to (Opens c) (After t u m source f k ready a q c) c (give fl s) r (λ d o. o.printed)
-      (λ d j at o. there t u n d (After t u m source f k ready a q c) fl s (each d (record {
-        inside = j;
-        at = at;
-        rep = rep_like t u k source f s c d (o.regs t.sp) o.input (λ x i is of kind. o.temps i) o.bytes rep;
-        above = λ x from. o.bytes x;
-      })))
+  left_to : (fl : Flow) (a : Around) (q : Place) (block : ℕ) (c : Point) (s : State)
+      → ((d : Point) → Past t u m source f k ready (begin_of block) c s d → Leads (M t u) c d → After t u m source f k ready a q c fl s d) → Inside t u k c → Stands_for t u m source f k ready s c
+      → Opened t u m k ready.fits block c → Does t u n c (After t u m source f k ready a q c) (give fl s)
+  left_to fl a q block c s each i rep o =
+      came t u n c o.point (After t u m source f k ready a q c) fl s (leads_comes (M t u) c o.point o.leads) o.fact.printed (each o.point (record {
+        inside = o.inside;
+        at = o.at;
+        rep = rep_like t u k source f s c o.point (o.fact.regs t.sp) o.fact.input (λ x i is of kind. o.fact.temps i) o.fact.bytes rep;
+        above = λ x from. o.fact.bytes x;
+      }) o.leads)
 
   pub break_does : Steps_do (give breaks) (leaving (λ a. Jumps a.breaks))
   break_does a first label b q c s fresh (r, one, last) i at rep =
-      let to = begin_of (block_at t u m source f k ready a.breaks) in
-      left_to breaks a q to c s (λ d h. h) i rep (jumps_to t u m source f k ready n a.breaks label b r to c i at one refl)
+      left_to breaks a q (block_at t u m source f k ready a.breaks) c s (λ d h way. h) i rep (close_jumps t u m k ready.fits a.breaks label b r c i at one)
 
   pub continue_does : Steps_do (give continues) (leaving (λ a. Jumps a.continues))
   continue_does a first label b q c s fresh (r, one, last) i at rep =
-      let to = begin_of (block_at t u m source f k ready a.continues) in
-      left_to continues a q to c s (λ d h. h) i rep (jumps_to t u m source f k ready n a.continues label b r to c i at one refl)
+      left_to continues a q (block_at t u m source f k ready a.continues) c s (λ d h way. (h, way)) i rep (close_jumps t u m k ready.fits a.continues label b r c i at one)
 
   -- ---- returns
 
@@ -126,7 +126,7 @@ module _ (t : Target) (u : Image) (m : Fixed) (source : Typed) (f : Function) (k
   then_jumps a to l r z q c d (returns v) s one last h = there t u n d (After t u m source f k ready a q c) (returns v) s h
 
   -- a statement that is run from a later point, and what follows it
-  runs_on : (e : SourceDoes) (p : Steps) (a : Around) (first label : ℕ) (r r1 q : Place) (c d : Point) (s : State) → Steps_do e p → scalar_count f ≤ first → Above t u m source f k ready c d
+  runs_on : (e : SourceDoes) (p : Steps) (a : Around) (first label : ℕ) (r r1 q : Place) (c d : Point) (s : State) → Steps_do e p → scalar_count f ≤ first → Way_from t u m source f k ready c d
       → Inside t u k d → At t u r d → Stands_for t u m source f k ready s d → Code (p.ops a first label) r r1
       → ((fl : Flow) (s1 : State) (x : Point) → After t u m source f k ready a r1 c fl s1 x → Does t u n x (After t u m source f k ready a q c) (give fl s1)) → Does t u n d (After t u m source f k ready a q c) (e s)
   runs_on e p a first label r r1 q c d s does fresh above i at rep ops then_on =
@@ -139,21 +139,22 @@ module _ (t : Target) (u : Image) (m : Fixed) (source : Typed) (f : Function) (k
         let then_ops = p.ops a (first + e.temps) (label + 2 + e.labels) in
         let parts = stands_split t u m k (e.ops false label (label + 1) first (label + 2)) (then_ops ++ (Close Falls label ∷ [])) b q ops in
         let inner = stands_split t u m k then_ops (Close Falls label ∷ []) parts.0 q parts.2 in
-        does_then t u n c (λ v. Tested_value t u m source f k ready P false label first parts.0 c (word v)) (After t u m source f k ready a q c) (then_do (x s) demand) (λ v. at_zero v (λ s. give next s) yes_does)
-        (needed_test t u m source f k ready n P false label first parts.0 c (x s) (test false label (label + 1) first (label + 2) b parts.0 c s fresh parts.1 i at rep))
-        (λ v s1 d g. each v s1 d parts.0 inner.0 inner.1 inner.2 g.1)
+        does_then t u n c (λ v s1 d. Tested_value t u m source f k ready P false label first parts.0 c (word v) s1 d × Comes (M t u) c d) (After t u m source f k ready a q c) (then_do (x s) demand) (λ v. at_zero v (λ s. give next s) yes_does)
+        (with_way t u m source f k ready n c (λ v. Tested_value t u m source f k ready P false label first parts.0 c (word v)) (then_do (x s) demand)
+        (needed_test t u m source f k ready n P false label first parts.0 c (x s) (test false label (label + 1) first (label + 2) b parts.0 c s fresh parts.1 i at rep)))
+        (λ v s1 d g. each v s1 d parts.0 inner.0 inner.1 inner.2 g.0.1 g.1)
       where
-        each : (v : ℕ) (s1 : State) (d : Point) (r r1 : Place) → Code (p.ops a (first + e.temps) (label + 2 + e.labels)) r r1 → Code (Close Falls label ∷ []) r1 q → Tested t u m source f k ready false label first r c v s1 d
+        each : (v : ℕ) (s1 : State) (d : Point) (r r1 : Place) → Code (p.ops a (first + e.temps) (label + 2 + e.labels)) r r1 → Code (Close Falls label ∷ []) r1 q → Tested t u m source f k ready false label first r c v s1 d → Comes (M t u) c d
             → Does t u n d (After t u m source f k ready a q c) (at_zero v (λ s. give next s) yes_does s1)
-        each zero s1 d r r1 body (r2, one, last) g =
+        each zero s1 d r r1 body (r2, one, last) g way =
             there t u n d (After t u m source f k ready a q c) next s1 (record {
               inside = g.inside;
               at = subst (λ z. At t u z d) (sym (last ∙ closes_at t u m source f k ready n Falls label r1 r2 one)) g.at;
               rep = g.rep;
               above = g.since.above;
             })
-        each (suc v) s1 d r r1 body (r2, one, last) g =
-            runs_on yes_does p a (first + e.temps) (label + 2 + e.labels) r r1 q c d s1 does_p (omega (arith, fresh)) g.since.above g.inside g.at g.rep body
+        each (suc v) s1 d r r1 body (r2, one, last) g way =
+            runs_on yes_does p a (first + e.temps) (label + 2 + e.labels) r r1 q c d s1 does_p (omega (arith, fresh)) (record { comes = way; above = g.since.above }) g.inside g.at g.rep body
             (λ fl s2 w h. then_falls a label r1 r2 q c w fl s2 one last h)
 
     pub if_else_does : (c : Site) (no_does : SourceDoes) (o : Steps) → Steps_do no_does o
@@ -164,21 +165,22 @@ module _ (t : Target) (u : Image) (m : Fixed) (source : Typed) (f : Function) (k
         let rest = Close (Jumps (label + 2)) label ∷ (else_ops ++ (Close Falls (label + 2) ∷ [])) in
         let parts = stands_split t u m k (e.ops false label (label + 1) first (label + 3)) (then_ops ++ rest) b q ops in
         let inner = stands_split t u m k then_ops rest parts.0 q parts.2 in
-        does_then t u n c (λ v. Tested_value t u m source f k ready P false label first parts.0 c (word v)) (After t u m source f k ready a q c) (then_do (x s) demand) (λ v. at_zero v no_does yes_does)
-        (needed_test t u m source f k ready n P false label first parts.0 c (x s) (test false label (label + 1) first (label + 3) b parts.0 c s fresh parts.1 i at rep))
-        (λ v s1 d g. each v s1 d parts.0 inner.0 inner.1 inner.2 g.1)
+        does_then t u n c (λ v s1 d. Tested_value t u m source f k ready P false label first parts.0 c (word v) s1 d × Comes (M t u) c d) (After t u m source f k ready a q c) (then_do (x s) demand) (λ v. at_zero v no_does yes_does)
+        (with_way t u m source f k ready n c (λ v. Tested_value t u m source f k ready P false label first parts.0 c (word v)) (then_do (x s) demand)
+        (needed_test t u m source f k ready n P false label first parts.0 c (x s) (test false label (label + 1) first (label + 3) b parts.0 c s fresh parts.1 i at rep)))
+        (λ v s1 d g. each v s1 d parts.0 inner.0 inner.1 inner.2 g.0.1 g.1)
       where
         each : (v : ℕ) (s1 : State) (d : Point) (r r1 : Place) → Code (p.ops a (first + e.temps) (label + 3 + e.labels)) r r1
             → Code (Close (Jumps (label + 2)) label ∷ (o.ops a (first + e.temps + p.temps) (label + 3 + e.labels + p.labels) ++ (Close Falls (label + 2) ∷ []))) r1 q
-            → Tested t u m source f k ready false label first r c v s1 d → Does t u n d (After t u m source f k ready a q c) (at_zero v no_does yes_does s1)
-        each v s1 d r r1 body (r2, jump, rest) g = by_end (stands_split t u m k (o.ops a (first + e.temps + p.temps) (label + 3 + e.labels + p.labels)) (Close Falls (label + 2) ∷ []) r2 q rest) v g
+            → Tested t u m source f k ready false label first r c v s1 d → Comes (M t u) c d → Does t u n d (After t u m source f k ready a q c) (at_zero v no_does yes_does s1)
+        each v s1 d r r1 body (r2, jump, rest) g way = by_end (stands_split t u m k (o.ops a (first + e.temps + p.temps) (label + 3 + e.labels + p.labels)) (Close Falls (label + 2) ∷ []) r2 q rest) v g
           where
             by_end : (r3 : Place) × Code (o.ops a (first + e.temps + p.temps) (label + 3 + e.labels + p.labels)) r2 r3 × Code (Close Falls (label + 2) ∷ []) r3 q → (v : ℕ) → Tested t u m source f k ready false label first r c v s1 d
                 → Does t u n d (After t u m source f k ready a q c) (at_zero v no_does yes_does s1)
             by_end (r3, other, (r4, fall, last)) zero g =
-                runs_on no_does o a (first + e.temps + p.temps) (label + 3 + e.labels + p.labels) r2 r3 q c d s1 does_o (omega (arith, fresh)) g.since.above g.inside
+                runs_on no_does o a (first + e.temps + p.temps) (label + 3 + e.labels + p.labels) r2 r3 q c d s1 does_o (omega (arith, fresh)) (record { comes = way; above = g.since.above }) g.inside
                 (subst (λ z. At t u z d) (sym (closes_at t u m source f k ready n (Jumps (label + 2)) label r1 r2 jump)) g.at) g.rep other
                 (λ fl s2 w h. then_falls a (label + 2) r3 r4 q c w fl s2 fall last h)
             by_end (r3, other, (r4, fall, last)) (suc v) g =
-                runs_on yes_does p a (first + e.temps) (label + 3 + e.labels) r r1 q c d s1 does_p (omega (arith, fresh)) g.since.above g.inside g.at g.rep body
+                runs_on yes_does p a (first + e.temps) (label + 3 + e.labels) r r1 q c d s1 does_p (omega (arith, fresh)) (record { comes = way; above = g.since.above }) g.inside g.at g.rep body
                 (λ fl s2 w h. then_jumps a (label + 2) label r1 r2 q c w fl s2 jump (last ∙ closes_at t u m source f k ready n Falls (label + 2) r3 r4 fall) h)

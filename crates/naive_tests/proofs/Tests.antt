@@ -271,11 +271,11 @@ module _ (t : Target) (u : Image) (m : Fixed) (source : Typed) (f : Function) (k
             there t u n d (Tested_value t u m source f k ready Is_truth sense target first q c) (word 1) s1
             (first_test sense target first 1 q _ c d s1 (omega arith) (place sense (opens_b sense target next (first + a.temps) (label + 1 + a.labels) r q rest)) g.inside g.at g.rep g.since)
 
-    pub in_turn_opens : (and : Bool) → Opens_next t u m source f k ready (in_turn and a b)
-    in_turn_opens and sense target next first label p q ops =
-        let to = decided and sense target next in
-        let parts = stands_split t u m k (a.ops (not and) to label first (label + 1)) (b.ops sense target next (first + a.temps) (label + 1 + a.labels)) p q ops in
-        opens_b sense target next (first + a.temps) (label + 1 + a.labels) parts.0 q parts.2
+  pub in_turn_opens : (and : Bool) (a b : Test) → Opens_next t u m source f k ready b → Opens_next t u m source f k ready (in_turn and a b)
+  in_turn_opens and a b opens sense target next first label p q ops =
+      let to = decided and sense target next in
+      let parts = stands_split t u m k (a.ops (not and) to label first (label + 1)) (b.ops sense target next (first + a.temps) (label + 1 + a.labels)) p q ops in
+      opens sense target next (first + a.temps) (label + 1 + a.labels) parts.0 q parts.2
 
   -- the denial of a test
   pub denied_does : (P : Result → Type 0) (x : State → Part Result) (a : Test) (spot : Spot) → TestDoes t u m source f k ready n P x a

@@ -6,7 +6,7 @@ use Rattle.c_tree.specs.declared.types.CType.{CType}
 use Rattle.c_tree.specs.declared.typed.Function.{Function}
 use Rattle.c_tree.specs.declared.typed.Typed.{Typed}
 use Rattle.c_limits.specs.Frames.{frame_bytes}
-use Rattle.c_meaning.specs.Parts.{State, Part, then_do, give, Value as Result, word, absent}
+use Rattle.c_meaning.specs.Parts.{State, Part, Gives, Cut, Fails, then_do, give, Value as Result, word, absent}
 use Rattle.c_meaning.specs.Statements.{Flow, next, breaks, continues, returns, Does as SourceDoes, go_on}
 use Rattle.temp_machine.specs.Routines.{Image, Target, Returns}
 use Rattle.temp_machine.specs.Live.{Place, End, item_at}

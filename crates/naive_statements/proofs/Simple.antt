@@ -65,23 +65,23 @@ module _ (t : Target) (u : Image) (m : Fixed) (source : Typed) (f : Function) (k
         above = λ x from. o.fact.bytes x;
       }) o.leads)
 
-  pub break_does : Steps_do (give breaks) (leaving (λ a. Jumps a.breaks))
-  break_does a first label b q c s fresh (r, one, last) i at rep =
+  pub break_does : (site : Site) (locals : List Thing) → Steps_do (give breaks) (leaving site locals (λ a. Jumps a.breaks))
+  break_does site locals a first label b q c s fresh (r, one, last) i at rep =
       left_to breaks a q (block_at t u m source f k ready a.breaks) c s (λ d h way. h) i rep (close_jumps t u m k ready.fits a.breaks label b r c i at one)
 
-  pub continue_does : Steps_do (give continues) (leaving (λ a. Jumps a.continues))
-  continue_does a first label b q c s fresh (r, one, last) i at rep =
+  pub continue_does : (site : Site) (locals : List Thing) → Steps_do (give continues) (leaving site locals (λ a. Jumps a.continues))
+  continue_does site locals a first label b q c s fresh (r, one, last) i at rep =
       left_to continues a q (block_at t u m source f k ready a.continues) c s (λ d h way. (h, way)) i rep (close_jumps t u m k ready.fits a.continues label b r c i at one)
 
   -- ---- returns
 
-  pub return_nothing : (spot : Spot) → Steps_do (give (returns (absent spot))) (leaving (λ a. Returns))
-  return_nothing spot a first label b q c s fresh (r, (z, (ends, same), found, is), last) i at rep =
+  pub return_nothing : (site : Site) (locals : List Thing) (spot : Spot) → Steps_do (give (returns (absent spot))) (leaving site locals (λ a. Returns))
+  return_nothing site locals spot a first label b q c s fresh (r, (z, (ends, same), found, is), last) i at rep =
       there t u n c (After t u m source f k ready a q c) (returns (absent spot)) s (record { inside = i; place = b; at = at; at_return = ends; rep = rep; above = λ x from. refl; result = tt })
 
-  pub return_value : (of : CType) (x : State → Part Result) (v : Value) → alike f.result of ≡ true → ValueDoes t u m source f k ready n of x v
-      → Steps_do (λ s. then_do (then_do (x s) demand) (λ w s1. give (returns (word w)) s1)) (joined (used v [] (λ r t. code.set_result r ∷ [])) (leaving (λ a. Returns)))
-  return_value of x v same does a first label b q c s fresh ops i at rep =
+  pub return_value : (site : Site) (locals : List Thing) (of : CType) (x : State → Part Result) (v : Value) → alike f.result of ≡ true → ValueDoes t u m source f k ready n of x v
+      → Steps_do (λ s. then_do (then_do (x s) demand) (λ w s1. give (returns (word w)) s1)) (joined (used v [] (λ r t. code.set_result r ∷ [])) (leaving site locals (λ a. Returns)))
+  return_value site locals of x v same does a first label b q c s fresh ops i at rep =
       let set = code.set_result (v.result first) ∷ [] in
       let end = Close Returns (label + v.labels) ∷ [] in
       let whole = stands_split t u m k (v.ops first label ++ set) end b q ops in

@@ -1,3 +1,4 @@
 pub mod Asked
 pub mod Simple
 pub mod Loops
+pub mod For

@@ -76,47 +76,35 @@ module _ (t : Target) (u : Image) (m : Fixed) (source : Typed) (f : Function) (k
   abbrev Steps_do : SourceDoes → Steps → Type 0
   Steps_do = StepsDo t u m source f k ready n
 
-  module _ (P : Result → Type 0) (x : State → Part Result) (e : Test) (test : TestDoes t u m source f k ready n P x e) (body : SourceDoes) (p : Steps) (does_body : Steps_do body p) where
-    -- the turns of a `while` that begins at a place, where places of its parts are given
-    module _ (a : Around) (first label : ℕ) (q r1 r2 r3 : Place) (c : Point) (fresh : scalar_count f ≤ first) (end : q ≡ begin_of (block_at t u m source f k ready label))
-        (test_ops : Code (e.ops false label (label + 2) first (label + 3)) (begin_of (block_at t u m source f k ready (label + 1))) r1)
-        (body_ops : Code (p.ops (record { breaks = label; continues = label + 1 }) (first + e.temps) (label + 3 + e.labels)) r1 r2)
-        (jump : One t.word m (routine_in t u k) (Close (Jumps (label + 1)) label) r2 r3) where
-      abbrev inner : Around
-      inner = record { breaks = label; continues = label + 1 }
+  -- a test that leaves where its value is 0
+  abbrev pub Tests_false : (Result → Type 0) → (State → Part Result) → Test → Type 0
+  Tests_false P x e =
+      (target next first label : ℕ) (p q : Place) (c : Point) (s : State) → scalar_count f ≤ first → Code (e.ops false target next first label) p q → Inside t u k c → At t u p c
+      → Stands_for t u m source f k ready s c → Does t u n c (Tested_value t u m source f k ready P false target first q c) (x s)
 
-      abbrev begins : ℕ
+  module _ (P : Result → Type 0) (x : State → Part Result) (e : Test) (test : Tests_false P x e) (body : SourceDoes) (p : Steps) (does_body : Steps_do body p) (step : SourceDoes) where
+    -- the turns of a loop with a test before each, where the places of its parts are given, and what is asked behind its body
+    module _ (a inner : Around) (first label next_label first_p label_e label_p : ℕ) (q r1 r2 : Place) (c : Point) (fresh : scalar_count f ≤ first) (fresh_p : scalar_count f ≤ first_p)
+        (end : q ≡ begin_of (block_at t u m source f k ready label))
+        (test_ops : Code (e.ops false label next_label first label_e) (begin_of (block_at t u m source f k ready (label + 1))) r1) (body_ops : Code (p.ops inner first_p label_p) r1 r2) where
+      abbrev pub begins : ℕ
       begins = block_at t u m source f k ready (label + 1)
 
-      abbrev Whole : Flow → State → Point → Type 0
+      abbrev pub Whole : Flow → State → Point → Type 0
       Whole = After t u m source f k ready a q c
 
-      abbrev Turns : ℕ → SourceDoes
-      Turns left = turns left (λ s. then_do (x s) demand) body nothing
+      abbrev pub Turns : ℕ → SourceDoes
+      Turns left = turns left (λ s. then_do (x s) demand) body step
 
       -- what is asked of the turns that are left, wherever the loop begins anew
-      abbrev Turns_do : ℕ → Type 0
+      abbrev pub Turns_do : ℕ → Type 0
       Turns_do left = (j : ℕ) → j ≤ left → j ≤ n → (d : Point) (s : State) → Inside t u k d → At t u (begin_of begins) d → Stands_for t u m source f k ready s d → Way_from t u m source f k ready c d → Does t u j d Whole (Turns left s)
 
-      -- a turn's body has been left
-      behind_body : (left j : ℕ) → Turns_do left → j ≤ suc left → j ≤ n → (d g : Point) (fl : Flow) (s : State) → Way_from t u m source f k ready c d → After t u m source f k ready inner r2 d fl s g → Comes (M t u) d g
-          → Ahead t u j d g Whole (turned fl (λ s1. then_do (nothing s1) (λ _. Turns left)) s)
-      behind_body left j ih le small d g next s way h on =
-          let o = close_jumps t u m k ready.fits (label + 1) label r2 r3 g h.inside h.at jump in
-          at_once (subst (λ y. Does t u j g Whole y) (sym (after_nothing t u (Turns left s)))
-          (subst (λ y. Does t u j g Whole y) (after_nothing t u (Turns left s))
-          (does_led t u j (j - 1) g o.point Whole [] (Turns left s) (omega arith) o.leads (o.fact.printed ∙ sym (append-nil g.printed))
-          (ih (j - 1) (omega (arith, le)) (omega (arith, small)) o.point s o.inside o.at
-          (rep_like t u k source f s g o.point (o.fact.regs t.sp) o.fact.input (λ y i is of kind. o.fact.temps i) o.fact.bytes h.rep)
-          (record { comes = comes_trans (M t u) c g o.point (comes_trans (M t u) c d g way.comes on) (leads_comes (M t u) g o.point o.leads); above = λ b from. o.fact.bytes b ∙ (h.above b from ∙ way.above b from) })))))
-      behind_body left j ih le small d g continues s way h on =
-          a_step (j - 1) (omega arith) h.1 (subst (λ y. Does t u (j - 1) g Whole y) (sym (after_nothing t u (Turns left s)))
-          (ih (j - 1) (omega (arith, le)) (omega (arith, small)) g s h.0.inside h.0.at h.0.rep
-          (record { comes = comes_trans (M t u) c d g way.comes on; above = λ b from. h.0.above b from ∙ way.above b from })))
-      behind_body left j ih le small d g breaks s way h on =
-          at_once (there t u j g Whole next s (record { inside = h.inside; at = subst (λ z. At t u z g) (sym end) h.at; rep = h.rep; above = λ b from. h.above b from ∙ way.above b from }))
-      behind_body left j ih le small d g (returns v) s way h on =
-          at_once (there t u j g Whole (returns v) s (after_since t u m source f k ready inner r2 c d (returns v) s g way h))
+      -- and where a turn's body has been left
+      abbrev pub Behind : Type 0
+      Behind =
+          (left j : ℕ) → Turns_do left → j ≤ suc left → j ≤ n → (d g : Point) (fl : Flow) (s : State) → Way_from t u m source f k ready c d → After t u m source f k ready inner r2 d fl s g → Comes (M t u) d g
+          → Ahead t u j d g Whole (turned fl (λ s1. then_do (step s1) (λ _. Turns left)) s)
 
       -- the test fails: behind the loop
       leaves_loop : (j : ℕ) (d g : Point) (s : State) → Way_from t u m source f k ready c d → Tested t u m source f k ready false label first r1 d 0 s g → Does t u j g Whole (nothing s)
@@ -128,31 +116,54 @@ module _ (t : Target) (u : Image) (m : Fixed) (source : Typed) (f : Function) (k
       tested_turn j small d s i at rep =
           fewer t u n j d _ (then_do (x s) demand) small
           (with_way t u m source f k ready n d (λ v. Tested_value t u m source f k ready P false label first r1 d (word v)) (then_do (x s) demand)
-          (needed_test t u m source f k ready n P false label first r1 d (x s) (test false label (label + 2) first (label + 3) (begin_of begins) r1 d s fresh test_ops i at rep)))
+          (needed_test t u m source f k ready n P false label first r1 d (x s) (test label next_label first label_e (begin_of begins) r1 d s fresh test_ops i at rep)))
 
-      turns_do : (left : ℕ) → Turns_do left
-      turns_do zero j le small d s i at rep way =
+      pub turns_do : Behind → (left : ℕ) → Turns_do left
+      turns_do behind zero j le small d s i at rep way =
           does_then t u j d (λ v s1 g. Tested_value t u m source f k ready P false label first r1 d (word v) s1 g × Comes (M t u) d g) Whole (then_do (x s) demand) (λ v. at_zero v nothing cut)
           (tested_turn j small d s i at rep) each
         where
           each : (v : ℕ) (s1 : State) (g : Point) → Tested_value t u m source f k ready P false label first r1 d (word v) s1 g × Comes (M t u) d g → Does t u j g Whole (at_zero v nothing cut s1)
           each zero s1 g h = leaves_loop j d g s1 way h.0.1
           each (suc v) s1 g h = cut_at t u j g Whole le
-      turns_do (suc left) j le small d s i at rep way =
+      turns_do behind (suc left) j le small d s i at rep way =
           does_then t u j d (λ v s1 g. Tested_value t u m source f k ready P false label first r1 d (word v) s1 g × Comes (M t u) d g) Whole (then_do (x s) demand)
-          (λ v. at_zero v nothing (λ s1. then_do (body s1) (λ fl. turned fl (λ s2. then_do (nothing s2) (λ _. Turns left)))))
-          (tested_turn j small d s i at rep) (λ v s1 g h. each (turns_do left) v s1 g h.0.1 h.1)
+          (λ v. at_zero v nothing (λ s1. then_do (body s1) (λ fl. turned fl (λ s2. then_do (step s2) (λ _. Turns left)))))
+          (tested_turn j small d s i at rep) (λ v s1 g h. each (turns_do behind left) v s1 g h.0.1 h.1)
         where
           each : Turns_do left → (v : ℕ) (s1 : State) (g : Point) → Tested t u m source f k ready false label first r1 d v s1 g → Comes (M t u) d g
-              → Does t u j g Whole (at_zero v nothing (λ s1. then_do (body s1) (λ fl. turned fl (λ s2. then_do (nothing s2) (λ _. Turns left)))) s1)
+              → Does t u j g Whole (at_zero v nothing (λ s1. then_do (body s1) (λ fl. turned fl (λ s2. then_do (step s2) (λ _. Turns left)))) s1)
           each ih zero s1 g h on = leaves_loop j d g s1 way h
           each ih (suc v) s1 g h on =
               let way' : Way_from t u m source f k ready c g = record { comes = comes_trans (M t u) c d g way.comes on; above = λ b from. h.since.above b from ∙ way.above b from } in
-              does_ahead t u j g (λ fl s2 w. After t u m source f k ready inner r2 g fl s2 w × Comes (M t u) g w) Whole (body s1) (λ fl. turned fl (λ s2. then_do (nothing s2) (λ _. Turns left)))
+              does_ahead t u j g (λ fl s2 w. After t u m source f k ready inner r2 g fl s2 w × Comes (M t u) g w) Whole (body s1) (λ fl. turned fl (λ s2. then_do (step s2) (λ _. Turns left)))
               (fewer t u n j g _ (body s1) small
-              (with_way t u m source f k ready n g (After t u m source f k ready inner r2 g) (body s1)
-              (does_body inner (first + e.temps) (label + 3 + e.labels) r1 r2 g s1 (omega (arith, fresh)) body_ops h.inside h.at h.rep)))
-              (λ fl s2 w z. behind_body left j ih le small g w fl s2 way' z.0 z.1)
+              (with_way t u m source f k ready n g (After t u m source f k ready inner r2 g) (body s1) (does_body inner first_p label_p r1 r2 g s1 fresh_p body_ops h.inside h.at h.rep)))
+              (λ fl s2 w z. behind left j ih le small g w fl s2 way' z.0 z.1)
+
+      -- a jump back to where the loop begins
+      pub jumps_back : (l : ℕ) (r z : Place) → One t.word m (routine_in t u k) (Close (Jumps (label + 1)) l) r z → (left j : ℕ) → Turns_do left → j ≤ suc left → j ≤ n → (g : Point) (s : State) → Past t u m source f k ready r c s g
+          → Comes (M t u) c g → Does t u j g Whole (Turns left s)
+      jumps_back l r z jump left j ih le small g s h way =
+          let o = close_jumps t u m k ready.fits (label + 1) l r z g h.inside h.at jump in
+          subst (λ y. Does t u j g Whole y) (after_nothing t u (Turns left s))
+          (does_led t u j (j - 1) g o.point Whole [] (Turns left s) (omega arith) o.leads (o.fact.printed ∙ sym (append-nil g.printed))
+          (ih (j - 1) (omega (arith, le)) (omega (arith, small)) o.point s o.inside o.at
+          (rep_like t u k source f s g o.point (o.fact.regs t.sp) o.fact.input (λ y i is of kind. o.fact.temps i) o.fact.bytes h.rep)
+          (record { comes = comes_trans (M t u) c g o.point way (leads_comes (M t u) g o.point o.leads); above = λ b from. o.fact.bytes b ∙ h.above b from })))
+
+      -- behind the loop, or at a return
+      pub broken : (j : ℕ) (d g : Point) (s : State) → Way_from t u m source f k ready c d → Past t u m source f k ready (begin_of (block_at t u m source f k ready label)) d s g → Does t u j g Whole (give next s)
+      broken j d g s way h = there t u j g Whole next s (record { inside = h.inside; at = subst (λ z. At t u z g) (sym end) h.at; rep = h.rep; above = λ b from. h.above b from ∙ way.above b from })
+
+      pub returned_from : (j : ℕ) (d g : Point) (v : Result) (s : State) → Way_from t u m source f k ready c d → Back t u m source f k ready d v s g → Does t u j g Whole (give (returns v) s)
+      returned_from j d g v s way h = there t u j g Whole (returns v) s (after_since t u m source f k ready inner r2 c d (returns v) s g way h)
+
+  -- ---- `while`
+
+  module _ (P : Result → Type 0) (x : State → Part Result) (e : Test) (test : TestDoes t u m source f k ready n P x e) (body : SourceDoes) (p : Steps) (does_body : Steps_do body p) where
+    falsely : Tests_false P x e
+    falsely target onward first label = test false target onward first label
 
     pub while_does : (site : Site) (locals : List Thing) (most : ℕ) → n ≤ most → Steps_do (turns most (λ s. then_do (x s) demand) body nothing) (while_steps site locals e p)
     while_does site locals most le a first label b q c s fresh (r0, enter, rest) i at rep =
@@ -166,9 +177,31 @@ module _ (t : Target) (u : Image) (m : Fixed) (source : Typed) (f : Function) (k
             → Does t u n c (After t u m source f k ready a q c) (turns most (λ s. then_do (x s) demand) body nothing s)
         by_parts r1 r2 test_ops body_ops (r3, jump, last) =
             let o = close_falls t u m k ready.fits (label + 1) b r0 c i at enter in
-            let end = last ∙ closes_at t u m source f k ready n (Jumps (label + 1)) label r2 r3 jump in
             let found : suc b.block ≡ block_at t u m source f k ready (label + 1) = sym (found_at t u m k ready.fits Falls (label + 1) b r0 enter) in
             does_quietly t u n c o.point (After t u m source f k ready a q c) (turns most (λ s. then_do (x s) demand) body nothing s) (leads_comes (M t u) c o.point o.leads) o.fact.printed
-            (turns_do a first label q r1 r2 r3 c fresh end test_ops body_ops jump most n le (omega arith) o.point s o.inside (subst (λ z. At t u (begin_of z) o.point) found o.at)
+            (turns_do P x e falsely body p does_body nothing a inner first label (label + 2) (first + e.temps) (label + 3) (label + 3 + e.labels) q r1 r2 c fresh (omega (arith, fresh)) end test_ops body_ops
+            (λ left j ih le small d g fl s way h on. behind left j ih le small d g fl s way h on) most n le (omega arith) o.point s o.inside (subst (λ z. At t u (begin_of z) o.point) found o.at)
             (rep_like t u k source f s c o.point (o.fact.regs t.sp) o.fact.input (λ y j is of kind. o.fact.temps j) o.fact.bytes rep)
             (record { comes = leads_comes (M t u) c o.point o.leads; above = λ y from. o.fact.bytes y }))
+          where
+            inner : Around
+            inner = record { breaks = label; continues = label + 1 }
+
+            end : q ≡ begin_of (block_at t u m source f k ready label)
+            end = last ∙ closes_at t u m source f k ready n (Jumps (label + 1)) label r2 r3 jump
+
+            behind : Behind P x e falsely body p does_body nothing a (record { breaks = label; continues = label + 1 }) first label (label + 2) (first + e.temps) (label + 3) (label + 3 + e.labels) q r1 r2 c fresh (omega (arith, fresh)) end test_ops body_ops
+            behind left j ih le small d g next s way h on =
+                at_once (subst (λ y. Does t u j g (After t u m source f k ready a q c) y) (sym (after_nothing t u (turns left (λ s. then_do (x s) demand) body nothing s)))
+                (jumps_back P x e falsely body p does_body nothing a (record { breaks = label; continues = label + 1 }) first label (label + 2) (first + e.temps) (label + 3) (label + 3 + e.labels) q r1 r2 c fresh (omega (arith, fresh)) end test_ops body_ops
+                label r2 r3 jump left j ih le small g s (record { inside = h.inside; at = h.at; rep = h.rep; above = λ b from. h.above b from ∙ way.above b from }) (comes_trans (M t u) c d g way.comes on)))
+            behind left j ih le small d g continues s way h on =
+                a_step (j - 1) (omega arith) h.1 (subst (λ y. Does t u (j - 1) g (After t u m source f k ready a q c) y) (sym (after_nothing t u (turns left (λ s. then_do (x s) demand) body nothing s)))
+                (ih (j - 1) (omega (arith, le)) (omega (arith, small)) g s h.0.inside h.0.at h.0.rep
+                (record { comes = comes_trans (M t u) c d g way.comes on; above = λ b from. h.0.above b from ∙ way.above b from })))
+            behind left j ih le small d g breaks s way h on =
+                at_once (broken P x e falsely body p does_body nothing a (record { breaks = label; continues = label + 1 }) first label (label + 2) (first + e.temps) (label + 3) (label + 3 + e.labels) q r1 r2 c fresh (omega (arith, fresh)) end test_ops body_ops
+                j d g s way h)
+            behind left j ih le small d g (returns v) s way h on =
+                at_once (returned_from P x e falsely body p does_body nothing a (record { breaks = label; continues = label + 1 }) first label (label + 2) (first + e.temps) (label + 3) (label + 3 + e.labels) q r1 r2 c fresh (omega (arith, fresh)) end test_ops body_ops
+                j d g v s way h)

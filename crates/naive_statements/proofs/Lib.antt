@@ -2,3 +2,4 @@ pub mod Asked
 pub mod Simple
 pub mod Loops
 pub mod For
+pub mod DoWhile

@@ -60,13 +60,13 @@ module _ (t : Target) (u : Image) where
   does_ahead n c Q P (Cut out) h (late _ l) each = late out l
   does_ahead n c Q P (Fails out why) h (any _ _) each = any out why
 
-  after_nothing : {A : Type 0} (x : Part A) → after [] x ≡ x
+  pub after_nothing : {A : Type 0} (x : Part A) → after [] x ≡ x
   after_nothing (Gives out v s) = refl
   after_nothing (Cut out) = refl
   after_nothing (Fails out why) = refl
 
   -- where no turn is left, the run is cut
-  cut_at : {A : Type 0} (j : ℕ) (c : Point) (Q : A → State → Point → Type 0) → j ≤ 0 → Does t u j c Q (Cut [])
+  pub cut_at : {A : Type 0} (j : ℕ) (c : Point) (Q : A → State → Point → Type 0) → j ≤ 0 → Does t u j c Q (Cut [])
   cut_at j c Q le = late [] (0, le, ap Running (sym (append-nil c.printed)))
 
 module _ (t : Target) (u : Image) (m : Fixed) (source : Typed) (f : Function) (k : Call) (ready : Ready t u m source f k) (n : ℕ) where

@@ -3,3 +3,4 @@ pub mod Simple
 pub mod Loops
 pub mod For
 pub mod DoWhile
+pub mod Blocks

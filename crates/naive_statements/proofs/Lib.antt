@@ -4,3 +4,4 @@ pub mod Loops
 pub mod For
 pub mod DoWhile
 pub mod Blocks
+pub mod Starts

@@ -5,3 +5,4 @@ pub mod For
 pub mod DoWhile
 pub mod Blocks
 pub mod Starts
+pub mod Dispatching

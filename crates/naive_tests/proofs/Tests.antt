@@ -73,7 +73,7 @@ module _ (t : Target) (u : Image) (m : Fixed) (source : Typed) (f : Function) (k
       subst (λ r. To_begin r c) (sym same) (record { point = o.point; comes = leads_comes (M t u) c o.point o.leads; inside = o.inside; at = o.at; fact = o.fact })
 
   -- where a branch by two temporaries goes
-  branched : (r : Rel) (a b target next x y : ℕ) (p q : Place) (c : Point) → Inside t u k c → At t u p c → c.view.cells (Temp a) ≡ Some x → c.view.cells (Temp b) ≡ Some y → Closes (Branches r a b target) next p q
+  pub branched : (r : Rel) (a b target next x y : ℕ) (p q : Place) (c : Point) → Inside t u k c → At t u p c → c.view.cells (Temp a) ≡ Some x → c.view.cells (Temp b) ≡ Some y → Closes (Branches r a b target) next p q
       → (leave : Bool) → word_test t.word r x y ≡ leave → To_begin (reached_at t u m source f k ready leave target q) c
   branched r a b target next x y p q c i h left right one true e =
       opened_to (block_at t u m source f k ready target) _ c refl (close_branch_off t u m k ready.fits r a b target next x y p q c i h left right (ap (λ z. cond z 1 0) e) one)

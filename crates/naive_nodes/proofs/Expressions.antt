@@ -1,5 +1,5 @@
 -- Each expression's code does what the expression does.
-use Rattle.std.proofs.Common.{◌≡◌, ◌≢◌, ℕ, zero, suc, ◌+◌, ◌≤◌, ◌<◌, List, [], ◌∷◌, map, Option, Some, None, refl, sym, ap, ◌∙◌, subst, arith}
+use Rattle.std.proofs.Common.{◌≡◌, ℕ, suc, ◌+◌, ◌≤◌, List, [], ◌∷◌, map, Option, Some, None, refl, sym, ap, ◌∙◌, subst, arith}
 use Rattle.std.specs.Prelude.{Bool, true, false, ◌&&◌, not, ◌==◌, max, slice_get, length}
 use Rattle.std.proofs.lemmas.Bool.Decides.{nat_tests}
 use Rattle.md_shapes.specs.Shapes.{Frame as Fixed}
@@ -21,17 +21,15 @@ use Rattle.c_tree.specs.declared.typed.TypedExpr.{TypedExpr}
 use Rattle.c_tree.specs.declared.typed.TypedExpr.TheOpen.{TypedExpr-F, Comma, Assign, Compound, Conditional, Binary, Unary, Before, After, Constant, Object, Element, Call, Convert}
 use Rattle.c_tree.specs.declared.typed.TypedExpr.TheFolds.{map-TypedExpr}
 use Rattle.c_limits.specs.Depths.{expression_arguments, arguments_of, greatest}
-use Rattle.c_limits.specs.Frames.{is_helper, word_bytes}
+use Rattle.c_limits.specs.Frames.{is_helper}
 use Rattle.c_meaning.specs.Operators.{Sort, computes, compares, logical, sort_of, as_type, relation_in}
 use Rattle.c_meaning.specs.Parts.{State, Part, Value as Result, word, absent}
 use Rattle.c_meaning.specs.Expressions.{Calls as SourceCalls, Evaluation, World, expression, meaning, constant, plain as source_plain, two as source_two}
 use Rattle.temp_machine.specs.Routines.{Image, Target}
-use Rattle.temp_machine.specs.Live.{Place}
 use Rattle.temp_machine.specs.Small.{Point}
 use Rattle.naive_code.specs.Operations as code
 use Rattle.naive_code.specs.Operations.{Op}
-use Rattle.naive_code.specs.Storage.{scalar_count}
-use Rattle.naive_code.specs.Expressions.{Value, Test, Naive, naive, naive_node, logical_value, leaf, both, then_on, narrowed, joined, computed, compared, in_turn, denied, tested_after, value_of, chosen, compound, stepped_before, stepped_after, negated, two, truth_of, one, truth_of_one, test_of, called, put_character, call_of, arguments}
+use Rattle.naive_code.specs.Expressions.{Value, Test, Naive, naive, naive_node, logical_value, leaf, both, then_on, narrowed, joined, computed, compared, in_turn, denied, tested_after, value_of, chosen, compound, stepped_before, stepped_after, negated, two, truth_of, one, called, call_of}
 use Rattle.naive_code.specs.Functions.{site_of}
 use Rattle.naive_run.specs.Sound.{Checked, checked, checked_by, type_of, alike, is_word, all_fit, fits_function, are_words, fits_operation, fits_call, a_word}
 use Rattle.naive_step.proofs.Doing.{does_on}
@@ -41,7 +39,7 @@ use Rattle.naive_values.proofs.Typed.{as_alike}
 use Rattle.naive_values.proofs.Asked.{Any, Is_truth, IsFresh, Has, Opens_next, Tested_value, Stands_in, ValueDoes, TestDoes}
 use Rattle.naive_values.proofs.Composing.{constant_does, comma_does, convert_does}
 use Rattle.naive_values.proofs.Single.{plus_does, minus_does, complement_does, arithmetic_does}
-use Rattle.naive_tests.proofs.Tests.{test_of_does, test_of_opens, compared_does, compared_opens, and_does, or_does, in_turn_opens, denied_does, denied_opens, tested_after_does, tested_after_opens}
+use Rattle.naive_tests.proofs.Tests.{compared_does, compared_opens, and_does, or_does, in_turn_opens, denied_does, denied_opens, tested_after_does, tested_after_opens}
 use Rattle.naive_tests.proofs.Choosing.{value_of_does, chosen_does}
 use Rattle.naive_calls.proofs.Calling.{CallsDo, All_do, word_size}
 use Rattle.naive_calls.proofs.Invoking.{Fit, call_does}
@@ -49,7 +47,7 @@ use Rattle.naive_calls.proofs.Talking.{takes_character, puts_character}
 use Rattle.naive_assigns.proofs.Assigning.{before_does, after_does}
 use Rattle.naive_assigns.proofs.Compounding.{Helps, Operation_fits, compound_does, an_int, standing}
 use Rattle.naive_nodes.proofs.Folds.{four_relate}
-use Rattle.naive_nodes.proofs.Nodes.{both_so, leaf_fresh, Related, Quad, Values, Tests_any, here_world, room, plain_related, logical_related, name_related, element_related, assign_related, compound_fresh, before_fresh, after_fresh, left_few, right_few}
+use Rattle.naive_nodes.proofs.Nodes.{both_so, leaf_fresh, Related, Quad, here_world, room, plain_related, logical_related, name_related, element_related, assign_related, compound_fresh, before_fresh, after_fresh, left_few, right_few}
 
 not_so : (b : Bool) → not b ≡ true → b ≡ false
 not_so true e = absurd (grind (arith, e))

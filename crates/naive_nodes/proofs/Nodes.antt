@@ -1,48 +1,33 @@
 -- What relates an expression and its code; names, elements and assignments.
-use Rattle.std.proofs.Common.{◌≡◌, ◌≢◌, ℕ, zero, suc, ◌+◌, ◌≤◌, ◌<◌, ◌⊎◌, inl, inr, List, [], ◌∷◌, map, Option, Some, None, refl, sym, ap, ◌∙◌, subst, arith}
-use Rattle.std.specs.Prelude.{Bool, true, false, ◌&&◌, not, ◌==◌, max, slice_get, length}
+use Rattle.std.proofs.Common.{◌≡◌, ℕ, ◌+◌, ◌≤◌, ◌<◌, List, [], refl, sym, subst, arith}
+use Rattle.std.specs.Prelude.{Bool, true, false, ◌&&◌, max}
 use Rattle.std.proofs.Math.Nat.{le-max_left, le-max_right}
-use Rattle.std.proofs.lemmas.Bool.Decides.{nat_tests}
 use Rattle.md_shapes.specs.Shapes.{Frame as Fixed}
-use Rattle.c_tree.specs.declared.token.At.{At as Spot}
 use Rattle.c_tree.specs.declared.types.CType.{CType}
-use Rattle.c_tree.specs.declared.types.CType.TheVariants as type
-use Rattle.c_tree.specs.declared.syntax.UnaryOperator.{UnaryOperator}
-use Rattle.c_tree.specs.declared.syntax.UnaryOperator.TheVariants as unary
 use Rattle.c_tree.specs.declared.syntax.StepOperator.{StepOperator}
 use Rattle.c_tree.specs.declared.typed.Head.{Head}
-use Rattle.c_tree.specs.declared.typed.Callee.{Callee}
-use Rattle.c_tree.specs.declared.typed.Callee.TheVariants as callee
 use Rattle.c_tree.specs.declared.typed.Operation.{Operation}
-use Rattle.c_tree.specs.declared.typed.Operation.TheVariants as operation
-use Rattle.c_tree.specs.declared.typed.Object.{Object as Thing}
 use Rattle.c_tree.specs.declared.typed.Variable.{Variable}
 use Rattle.c_tree.specs.declared.typed.Function.{Function}
 use Rattle.c_tree.specs.declared.typed.Typed.{Typed}
-use Rattle.c_tree.specs.declared.typed.TypedExpr.{TypedExpr}
-use Rattle.c_tree.specs.declared.typed.TypedExpr.TheOpen.{TypedExpr-F, Comma, Assign, Compound, Conditional, Binary, Unary, Before, After, Constant, Object, Element, Call, Convert}
-use Rattle.c_tree.specs.declared.typed.TypedExpr.TheFolds.{map-TypedExpr}
-use Rattle.c_limits.specs.Depths.{expression_arguments, arguments_of, greatest}
-use Rattle.c_limits.specs.Frames.{is_helper}
-use Rattle.c_meaning.specs.Operators.{Sort, computes, compares, logical, sort_of, as_type}
+use Rattle.c_tree.specs.declared.typed.TypedExpr.TheOpen.{Assign, Object, Element}
 use Rattle.c_meaning.specs.Parts.{State, Part, then_do, demand, Value as Result}
-use Rattle.c_meaning.specs.Expressions.{Kind, missing, scalar, array, type_in, Calls as SourceCalls, Evaluation, Lvalue, expression, meaning, constant, plain as source_plain, no_lvalue, two as source_two, element as element_of, as_value, read, World}
+use Rattle.c_meaning.specs.Expressions.{Kind, missing, scalar, array, type_in, Calls as SourceCalls, Evaluation, expression, plain as source_plain, no_lvalue, element as element_of, as_value, read, World}
 use Rattle.c_meaning.specs.Run.{kind_in}
 use Rattle.temp_machine.specs.Routines.{Image, Target}
 use Rattle.naive_code.specs.Operations.{Op}
-use Rattle.naive_code.specs.Storage.{Base, Symbol, Frame, Storage, Temporary, Word, Elements, Missing, storage_of}
-use Rattle.naive_code.specs.Expressions.{Value, Test, Designated, object, element, nowhere, Naive, naive, naive_node, plain, logical_value, leaf, opened, settled_in, read_object, read_element, address_in, assigned, compound, stepped_before, stepped_after, two, truth_of, one, truth_of_one, test_of, value_of}
+use Rattle.naive_code.specs.Storage.{Storage, Temporary, Word, Elements, Missing, storage_of}
+use Rattle.naive_code.specs.Expressions.{Value, Test, Designated, object, element, nowhere, Naive, naive_node, plain, logical_value, leaf, opened, settled_in, read_object, read_element, address_in, assigned, compound, stepped_before, stepped_after}
 use Rattle.naive_code.specs.Functions.{site_of}
-use Rattle.naive_run.specs.Sound.{Checked, checked, checked_by, type_of, alike, is_word, is_array, all_fit, fits_function, are_words, fits_operation, fits_call, a_word}
+use Rattle.naive_run.specs.Sound.{Checked, alike, is_array}
 use Rattle.naive_step.proofs.Doing.{any}
 use Rattle.naive_step.proofs.Making.{Call as Active}
 use Rattle.naive_assigned.proofs.Ready.{Ready, outgoing}
 use Rattle.naive_assigned.proofs.Storages.{array_storage}
-use Rattle.naive_nodes.proofs.Folds.{Four, four_relate}
-use Rattle.naive_values.proofs.Asked.{Any, Is_truth, IsFresh, Place_fresh, Opens_next, ValueDoes, TestDoes, PlaceDoes}
-use Rattle.naive_values.proofs.Composing.{constant_does, comma_does, convert_does}
+use Rattle.naive_nodes.proofs.Folds.{Four}
+use Rattle.naive_values.proofs.Asked.{Any, IsFresh, Place_fresh, Opens_next, ValueDoes, TestDoes, PlaceDoes}
 use Rattle.naive_values.proofs.Objects.{object_place, object_value, element_place, element_value}
-use Rattle.naive_assigns.proofs.Assigning.{world, assign_does, before_does, after_does}
+use Rattle.naive_assigns.proofs.Assigning.{world, assign_does}
 use Rattle.naive_tests.proofs.Tests.{test_of_does, test_of_opens}
 use Rattle.naive_calls.proofs.Calling.{CallsDo}
 

@@ -1,21 +1,17 @@
 -- What is asked of the code of a statement.
-use Rattle.std.proofs.Common.{◌≡◌, ◌≢◌, ℕ, zero, suc, ◌+◌, ◌≤◌, ◌<◌, inr, List, [], ◌∷◌, ◌++◌, Option, Some, None, refl, sym, ap, ◌∙◌, subst, arith}
-use Rattle.rtl_tree.specs.declared.cells.Cell.TheVariants.{Hard, Temp}
+use Rattle.std.proofs.Common.{◌≡◌, ℕ, ◌+◌, ◌≤◌, List, Some, ◌∙◌, arith}
 use Rattle.md_shapes.specs.Shapes.{Frame as Fixed}
-use Rattle.c_tree.specs.declared.types.CType.{CType}
 use Rattle.c_tree.specs.declared.typed.Function.{Function}
 use Rattle.c_tree.specs.declared.typed.Typed.{Typed}
 use Rattle.c_limits.specs.Frames.{frame_bytes}
-use Rattle.c_meaning.specs.Parts.{State, Part, Gives, Cut, Fails, then_do, give, Value as Result, word, absent}
+use Rattle.c_meaning.specs.Parts.{State, Part, Gives, Cut, Fails, then_do, give, Value as Result}
 use Rattle.c_meaning.specs.Statements.{Flow, next, breaks, continues, returns, Does as SourceDoes, go_on}
 use Rattle.temp_machine.specs.Routines.{Image, Target, Returns}
 use Rattle.temp_machine.specs.Live.{Place, End, item_at}
 use Rattle.temp_machine.specs.Small.{Point}
-use Rattle.naive_code.specs.Operations as code
-use Rattle.naive_code.specs.Operations.{Op, Close, Falls, Jumps}
+use Rattle.naive_code.specs.Operations.{Op}
 use Rattle.naive_code.specs.Storage.{scalar_count}
 use Rattle.naive_code.specs.Statements.{Around, Steps, joined}
-use Rattle.naive_run.specs.Standing.{One}
 use Rattle.behaviour.specs.Steps.{Comes, Leads}
 use Rattle.behaviour.proofs.Stepping.{comes_then_leads}
 use Rattle.naive_step.proofs.Doing.{M, Does, comes, late, any, does_then, does_on, there}
@@ -24,10 +20,9 @@ use Rattle.naive_step.proofs.Ends.{Opens, begin_of}
 use Rattle.naive_assigned.proofs.Ready.{Ready}
 use Rattle.naive_assigned.proofs.Working.{rep_works}
 use Rattle.naive_values.proofs.Getting.{To, Ops, stands_split}
-use Rattle.naive_values.proofs.Asked.{Stands_for, Since, block_at, since_works}
+use Rattle.naive_values.proofs.Asked.{Stands_for, block_at}
 use Rattle.naive_values.proofs.Composing.{to_does}
 use Rattle.naive_tests.proofs.Tests.{works_opens}
-use Rattle.naive_tests.proofs.Choosing.{falls_to}
 use Rattle.naive_calls.proofs.Calling.{Returned}
 
 module _ (t : Target) (u : Image) (m : Fixed) (source : Typed) (f : Function) (k : Call) (ready : Ready t u m source f k) where

@@ -1,36 +1,34 @@
 -- Blocks, and declarations without a list (C11 6.8.2, 6.7.9): objects become unset, or are set to a value.
-use Rattle.std.proofs.Common.{◌≡◌, ◌≢◌, ℕ, zero, suc, ◌+◌, ◌≤◌, ◌<◌, ◌⊎◌, inl, inr, List, [], ◌∷◌, ◌++◌, map, Option, Some, None, refl, sym, ap, ◌∙◌, subst, arith, true, false}
+use Rattle.std.proofs.Common.{◌≡◌, ℕ, ◌+◌, ◌⊎◌, inl, inr, List, [], ◌∷◌, map, Some, None, refl, sym, ap, ◌∙◌, subst, arith, true, false}
 use Rattle.std.specs.Prelude.{Bool, ◌==◌, ◌&&◌, nat_le, if◌then◌else◌}
-use Rattle.rtl_tree.specs.declared.cells.Cell.TheVariants.{Temp}
 use Rattle.md_shapes.specs.Shapes.{Frame as Fixed}
 use Rattle.c_tree.specs.declared.types.CType.{CType}
-use Rattle.c_tree.specs.declared.typed.Object.{Object as Thing}
 use Rattle.c_tree.specs.declared.typed.Variable.{Variable}
 use Rattle.c_tree.specs.declared.typed.Variable.TheVariants as variable
 use Rattle.c_tree.specs.declared.typed.Function.{Function}
 use Rattle.c_tree.specs.declared.typed.Typed.{Typed}
 use Rattle.c_meaning.specs.Operators.{as_type}
-use Rattle.c_meaning.specs.Parts.{State, Part, then_do, give, demand, load, store as stored, unset, Value as Result, word, absent}
+use Rattle.c_meaning.specs.Parts.{State, Part, then_do, give, demand, load, store as stored, unset, Value as Result}
 use Rattle.c_meaning.specs.Expressions.{Kind, missing, scalar, array, type_in, World, Lvalue, as_object}
 use Rattle.c_meaning.specs.Run.{kind_in}
-use Rattle.c_meaning.specs.Statements.{Flow, next, Does as SourceDoes, Execution, sequence, all_unset, initialised}
+use Rattle.c_meaning.specs.Statements.{next, Does as SourceDoes, Execution, sequence, all_unset, initialised}
 use Rattle.temp_machine.specs.Routines.{Image, Target}
 use Rattle.temp_machine.specs.Live.{Place}
 use Rattle.temp_machine.specs.Small.{Point}
 use Rattle.naive_code.specs.Operations.{Op}
-use Rattle.naive_code.specs.Storage.{Storage, Temporary, Word, Elements, Missing, storage_of, scalar_count}
+use Rattle.naive_code.specs.Storage.{Storage, Temporary, Word, Elements, Missing, storage_of}
 use Rattle.naive_code.specs.Expressions.{Value, object, put_into}
-use Rattle.naive_code.specs.Statements.{Around, Steps, no_steps, enclosed, all_joined, used}
+use Rattle.naive_code.specs.Statements.{Steps, no_steps, enclosed, all_joined, used}
 use Rattle.naive_run.specs.Sound.{alike}
-use Rattle.naive_step.proofs.Doing.{Does, there, came}
-use Rattle.naive_step.proofs.Making.{Call, Inside, At, routine_in}
-use Rattle.naive_rep.proofs.Rep.{Holds, Rep}
+use Rattle.naive_step.proofs.Doing.{there, came}
+use Rattle.naive_step.proofs.Making.{Call, At}
+use Rattle.naive_rep.proofs.Rep.{Holds}
 use Rattle.naive_assigned.proofs.Ready.{Ready}
 use Rattle.naive_assigned.proofs.Storages.{scalar_storage}
 use Rattle.naive_values.proofs.Typed.{as_alike}
 use Rattle.naive_values.proofs.Getting.{Ops}
-use Rattle.naive_values.proofs.Asked.{IsFresh, Stands_for, Has_word, Kept, in_temporary, in_word, ValueDoes}
-use Rattle.naive_values.proofs.Places.{Puts, puts}
+use Rattle.naive_values.proofs.Asked.{IsFresh, Stands_for, Kept, in_temporary, in_word, ValueDoes}
+use Rattle.naive_values.proofs.Places.{puts}
 use Rattle.naive_values.proofs.Composing.{value_then}
 use Rattle.naive_statements.proofs.Asked.{Past, After, StepsDo, joined_does}
 use Rattle.naive_statements.proofs.For.{PastDo}

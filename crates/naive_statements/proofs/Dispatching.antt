@@ -1,8 +1,7 @@
 -- A switch compares its value with that of each case in turn (C11 6.8.4.2).
-use Rattle.std.proofs.Common.{◌≡◌, ◌≢◌, ℕ, zero, suc, ◌+◌, ◌≤◌, ◌<◌, List, [], ◌∷◌, ◌++◌, Option, Some, None, refl, sym, ap, ◌∙◌, subst, arith, true, false}
+use Rattle.std.proofs.Common.{◌≡◌, ◌≢◌, ℕ, ◌+◌, ◌<◌, List, [], ◌∷◌, Option, Some, None, refl, ◌∙◌, arith, true, false}
 use Rattle.std.specs.Prelude.{Bool, ◌==◌, if◌then◌else◌}
 use Rattle.rtl_word.specs.declared.Rel.TheVariants.{Eq}
-use Rattle.rtl_word.specs.Words.{word_test}
 use Rattle.rtl_tree.specs.declared.cells.Cell.TheVariants.{Temp}
 use Rattle.md_shapes.specs.Shapes.{Frame as Fixed}
 use Rattle.c_tree.specs.declared.typed.Object.{Object as Thing}
@@ -11,11 +10,9 @@ use Rattle.c_tree.specs.declared.typed.Typed.{Typed}
 use Rattle.temp_machine.specs.Routines.{Image, Target}
 use Rattle.temp_machine.specs.Live.{Place}
 use Rattle.temp_machine.specs.Small.{Point}
-use Rattle.naive_code.specs.Operations.{Op, Close, Branches, constant}
 use Rattle.naive_code.specs.Expressions.{Site}
 use Rattle.naive_code.specs.Statements.{dispatched}
-use Rattle.naive_run.specs.Standing.{One}
-use Rattle.naive_step.proofs.Making.{Call, Inside, At, routine_in}
+use Rattle.naive_step.proofs.Making.{Call, Inside, At}
 use Rattle.naive_step.proofs.Acts.{SetsTemp}
 use Rattle.naive_step.proofs.Ends.{Opens, begin_of}
 use Rattle.naive_assigned.proofs.Ready.{Ready}

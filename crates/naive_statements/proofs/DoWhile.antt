@@ -1,31 +1,31 @@
 -- `do` (C11 6.8.5.2).
-use Rattle.std.proofs.Common.{◌≡◌, ◌≢◌, ℕ, zero, suc, ◌+◌, ◌-◌, ◌≤◌, ◌<◌, List, [], ◌∷◌, ◌++◌, Option, Some, None, refl, sym, ap, ◌∙◌, subst, arith, true, false}
-use Rattle.behaviour.specs.Steps.{Comes, Leads}
+use Rattle.std.proofs.Common.{◌≡◌, ℕ, zero, suc, ◌+◌, ◌-◌, ◌≤◌, List, [], ◌∷◌, sym, ◌∙◌, subst, arith, true}
+use Rattle.behaviour.specs.Steps.{Comes}
 use Rattle.behaviour.proofs.Stepping.{leads_comes, comes_trans}
 use Rattle.md_shapes.specs.Shapes.{Frame as Fixed}
 use Rattle.c_tree.specs.declared.typed.Object.{Object as Thing}
 use Rattle.c_tree.specs.declared.typed.Function.{Function}
 use Rattle.c_tree.specs.declared.typed.Typed.{Typed}
-use Rattle.c_meaning.specs.Parts.{State, Part, Gives, Cut, Fails, after, then_do, give, demand, Value as Result, word, absent}
+use Rattle.c_meaning.specs.Parts.{State, Part, then_do, demand, Value as Result, word}
 use Rattle.c_meaning.specs.Expressions.{at_zero}
 use Rattle.c_meaning.specs.Statements.{Flow, next, breaks, continues, returns, Does as SourceDoes, nothing, turned, do_turns}
 use Rattle.temp_machine.specs.Routines.{Image, Target}
 use Rattle.temp_machine.specs.Live.{Place}
 use Rattle.temp_machine.specs.Small.{Point}
-use Rattle.naive_code.specs.Operations.{Op, Close, Falls, Jumps}
+use Rattle.naive_code.specs.Operations.{Op, Close, Falls}
 use Rattle.naive_code.specs.Storage.{scalar_count}
 use Rattle.naive_code.specs.Expressions.{Test, Site}
 use Rattle.naive_code.specs.Statements.{Around, Steps, do_steps}
 use Rattle.naive_run.specs.Standing.{One}
-use Rattle.naive_step.proofs.Doing.{M, Does, comes, late, any, does_from, does_later, does_quietly, does_then, does_on, fewer, there}
+use Rattle.naive_step.proofs.Doing.{M, Does, does_quietly, does_then, fewer, there}
 use Rattle.naive_step.proofs.Making.{Call, Inside, At, routine_in}
-use Rattle.naive_step.proofs.Ends.{Opens, Opened, begin_of, close_falls, close_jumps, found_at, closed_at}
+use Rattle.naive_step.proofs.Ends.{begin_of, close_falls, found_at, closed_at}
 use Rattle.naive_assigned.proofs.Ready.{Ready}
 use Rattle.naive_rep.proofs.Rep.{rep_like}
-use Rattle.naive_values.proofs.Getting.{To, Ops, stands_split}
+use Rattle.naive_values.proofs.Getting.{Ops, stands_split}
 use Rattle.naive_values.proofs.Asked.{Stands_for, Tested, Tested_value, block_at, Opens_next, TestDoes}
 use Rattle.naive_tests.proofs.Tests.{needed_test, closes_at}
-use Rattle.naive_statements.proofs.Asked.{Above, Way_from, Past, Back, After, after_since, with_way, StepsDo}
+use Rattle.naive_statements.proofs.Asked.{Way_from, After, after_since, with_way, StepsDo}
 use Rattle.std.proofs.lemmas.List.{append-nil}
 use Rattle.naive_statements.proofs.Loops.{Ahead, at_once, a_step, does_led, does_ahead, after_nothing, cut_at}
 

@@ -1,14 +1,13 @@
 -- `for` (C11 6.8.5.3).
-use Rattle.std.proofs.Common.{◌≡◌, ◌≢◌, ℕ, zero, suc, ◌+◌, ◌-◌, ◌≤◌, ◌<◌, List, [], ◌∷◌, ◌++◌, Option, Some, None, refl, sym, ap, ◌∙◌, subst, arith, true, false}
-use Rattle.behaviour.specs.Steps.{Comes, Leads}
+use Rattle.std.proofs.Common.{◌≡◌, ℕ, suc, ◌+◌, ◌≤◌, List, [], ◌∷◌, ◌++◌, sym, ◌∙◌, subst, arith, false}
+use Rattle.behaviour.specs.Steps.{Comes}
 use Rattle.behaviour.proofs.Stepping.{leads_comes, comes_trans}
 use Rattle.md_shapes.specs.Shapes.{Frame as Fixed}
 use Rattle.c_tree.specs.declared.typed.Object.{Object as Thing}
 use Rattle.c_tree.specs.declared.typed.Function.{Function}
 use Rattle.c_tree.specs.declared.typed.Typed.{Typed}
-use Rattle.c_meaning.specs.Parts.{State, Part, Gives, Cut, Fails, after, then_do, give, demand, Value as Result, word, absent}
-use Rattle.c_meaning.specs.Expressions.{at_zero}
-use Rattle.c_meaning.specs.Statements.{Flow, next, breaks, continues, returns, Does as SourceDoes, nothing, turned, turns}
+use Rattle.c_meaning.specs.Parts.{State, Part, then_do, demand, Value as Result}
+use Rattle.c_meaning.specs.Statements.{Flow, next, breaks, continues, returns, Does as SourceDoes, nothing, turns}
 use Rattle.temp_machine.specs.Routines.{Image, Target}
 use Rattle.temp_machine.specs.Live.{Place}
 use Rattle.temp_machine.specs.Small.{Point}
@@ -18,16 +17,16 @@ use Rattle.c_tree.specs.declared.types.CType.{CType}
 use Rattle.naive_code.specs.Expressions.{Value, Test, Site}
 use Rattle.naive_code.specs.Statements.{Around, Steps, for_steps, dropped}
 use Rattle.naive_run.specs.Standing.{One}
-use Rattle.naive_step.proofs.Doing.{M, Does, comes, late, any, does_from, does_later, does_quietly, does_then, does_on, fewer, there}
+use Rattle.naive_step.proofs.Doing.{M, Does, does_quietly, does_then, fewer, there}
 use Rattle.naive_step.proofs.Making.{Call, Inside, At, routine_in}
-use Rattle.naive_step.proofs.Ends.{Opens, Opened, begin_of, close_falls, close_jumps, found_at, closed_at}
+use Rattle.naive_step.proofs.Ends.{begin_of, close_falls, found_at, closed_at}
 use Rattle.naive_assigned.proofs.Ready.{Ready}
 use Rattle.naive_rep.proofs.Rep.{rep_like}
-use Rattle.naive_values.proofs.Getting.{To, Ops, stands_split}
+use Rattle.naive_values.proofs.Getting.{Ops, stands_split}
 use Rattle.naive_values.proofs.Asked.{Stands_for, Has, block_at, ValueDoes}
 use Rattle.naive_tests.proofs.Tests.{closes_at}
-use Rattle.naive_statements.proofs.Asked.{Above, Way_from, Past, Back, After, after_since, with_way, StepsDo}
-use Rattle.naive_statements.proofs.Loops.{Ahead, at_once, Tests_false, Behind, turns_do, jumps_back, broken, returned_from}
+use Rattle.naive_statements.proofs.Asked.{Way_from, Past, After, with_way, StepsDo}
+use Rattle.naive_statements.proofs.Loops.{at_once, Tests_false, Behind, turns_do, jumps_back, broken, returned_from}
 
 module _ (t : Target) (u : Image) (m : Fixed) (source : Typed) (f : Function) (k : Call) (ready : Ready t u m source f k) (n : ℕ) where
   abbrev Code : List Op → Place → Place → Type 0

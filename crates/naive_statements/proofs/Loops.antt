@@ -1,5 +1,5 @@
 -- Loops: each turn takes a step of the machine at least (C11 6.8.5).
-use Rattle.std.proofs.Common.{◌≡◌, ◌≢◌, ℕ, zero, suc, ◌+◌, ◌-◌, ◌≤◌, ◌<◌, List, [], ◌∷◌, ◌++◌, Option, Some, None, refl, sym, ap, ◌∙◌, subst, arith, true, false}
+use Rattle.std.proofs.Common.{◌≡◌, ℕ, zero, suc, ◌+◌, ◌-◌, ◌≤◌, List, [], ◌∷◌, ◌++◌, refl, sym, ap, ◌∙◌, subst, arith, false}
 use mathlib.Core.List.{append_assoc}
 use Rattle.std.proofs.lemmas.List.{append-nil}
 use Rattle.behaviour.specs.Behaviour.{Running}
@@ -11,7 +11,7 @@ use Rattle.md_shapes.specs.Shapes.{Frame as Fixed}
 use Rattle.c_tree.specs.declared.typed.Object.{Object as Thing}
 use Rattle.c_tree.specs.declared.typed.Function.{Function}
 use Rattle.c_tree.specs.declared.typed.Typed.{Typed}
-use Rattle.c_meaning.specs.Parts.{State, Part, Gives, Cut, Fails, after, then_do, give, demand, Value as Result, word, absent}
+use Rattle.c_meaning.specs.Parts.{State, Part, Gives, Cut, Fails, after, then_do, give, demand, Value as Result, word}
 use Rattle.c_meaning.specs.Expressions.{at_zero}
 use Rattle.c_meaning.specs.Statements.{Flow, next, breaks, continues, returns, Does as SourceDoes, nothing, cut, turned, turns}
 use Rattle.temp_machine.specs.Routines.{Image, Target}
@@ -22,15 +22,15 @@ use Rattle.naive_code.specs.Storage.{scalar_count}
 use Rattle.naive_code.specs.Expressions.{Test, Site}
 use Rattle.naive_code.specs.Statements.{Around, Steps, while_steps}
 use Rattle.naive_run.specs.Standing.{One}
-use Rattle.naive_step.proofs.Doing.{M, Does, comes, late, any, does_from, does_later, does_quietly, does_then, does_on, fewer, there}
+use Rattle.naive_step.proofs.Doing.{M, Does, comes, late, any, does_from, does_quietly, does_then, fewer, there}
 use Rattle.naive_step.proofs.Making.{Call, Inside, At, routine_in}
-use Rattle.naive_step.proofs.Ends.{Opens, Opened, begin_of, close_falls, close_jumps, found_at, closed_at}
+use Rattle.naive_step.proofs.Ends.{begin_of, close_falls, close_jumps, found_at}
 use Rattle.naive_assigned.proofs.Ready.{Ready}
 use Rattle.naive_rep.proofs.Rep.{rep_like}
-use Rattle.naive_values.proofs.Getting.{To, Ops, stands_split}
-use Rattle.naive_values.proofs.Asked.{Stands_for, Since, Tested, Tested_value, block_at, TestDoes}
+use Rattle.naive_values.proofs.Getting.{Ops, stands_split}
+use Rattle.naive_values.proofs.Asked.{Stands_for, Tested, Tested_value, block_at, TestDoes}
 use Rattle.naive_tests.proofs.Tests.{needed_test, closes_at}
-use Rattle.naive_statements.proofs.Asked.{Above, Way_from, Past, Back, After, after_since, with_way, StepsDo}
+use Rattle.naive_statements.proofs.Asked.{Way_from, Past, Back, After, after_since, with_way, StepsDo}
 
 -- ---- steps that count
 

@@ -1,7 +1,6 @@
 -- Expression statements, jumps, returns and `if` (C11 6.8.3, 6.8.4.1, 6.8.6).
-use Rattle.std.proofs.Common.{◌≡◌, ◌≢◌, ℕ, zero, suc, ◌+◌, ◌≤◌, ◌<◌, inr, List, [], ◌∷◌, ◌++◌, Option, Some, None, refl, sym, ap, ◌∙◌, subst, arith, true, false}
-use Rattle.std.specs.Prelude.{Bool}
-use Rattle.rtl_tree.specs.declared.cells.Cell.TheVariants.{Hard, Temp}
+use Rattle.std.proofs.Common.{◌≡◌, ◌≢◌, ℕ, zero, suc, ◌+◌, ◌≤◌, List, [], ◌∷◌, ◌++◌, Some, None, refl, sym, ap, ◌∙◌, subst, arith, true, false}
+use Rattle.rtl_tree.specs.declared.cells.Cell.TheVariants.{Hard}
 use Rattle.md_shapes.specs.declared.patterns.Pattern.TheVariants as shape
 use Rattle.md_shapes.specs.Shapes.{Frame as Fixed}
 use Rattle.c_tree.specs.declared.token.At.{At as Spot}
@@ -24,20 +23,20 @@ use Rattle.naive_run.specs.Sound.{alike}
 use Rattle.naive_run.specs.Standing.{shaped, One}
 use Rattle.behaviour.specs.Steps.{Comes, Leads}
 use Rattle.behaviour.proofs.Stepping.{leads_comes}
-use Rattle.naive_step.proofs.Doing.{M, Does, does_then, does_further, does_on, there, came}
+use Rattle.naive_step.proofs.Doing.{M, Does, does_then, does_further, there, came}
 use Rattle.naive_step.proofs.Making.{Call, Inside, At, routine_in}
-use Rattle.naive_step.proofs.Acts.{SetsReg, set_reg}
+use Rattle.naive_step.proofs.Acts.{set_reg}
 use Rattle.naive_step.proofs.Ways.{make_has}
-use Rattle.naive_step.proofs.Ends.{Opens, Opened, begin_of, close_jumps}
+use Rattle.naive_step.proofs.Ends.{Opened, begin_of, close_jumps}
 use Rattle.naive_assigned.proofs.Ready.{Ready}
 use Rattle.naive_rep.proofs.Rep.{rep_like}
 use Rattle.naive_values.proofs.Typed.{as_alike}
-use Rattle.naive_values.proofs.Getting.{To, Ops, stands_split}
-use Rattle.naive_values.proofs.Asked.{Stands_for, Since, Has, Tested, Tested_value, block_at, Opens_next, ValueDoes, TestDoes}
-use Rattle.naive_values.proofs.Composing.{value_then, to_does}
+use Rattle.naive_values.proofs.Getting.{Ops, stands_split}
+use Rattle.naive_values.proofs.Asked.{Stands_for, Has, Tested, Tested_value, block_at, Opens_next, ValueDoes, TestDoes}
+use Rattle.naive_values.proofs.Composing.{value_then}
 use Rattle.naive_tests.proofs.Tests.{needed_test, closes_at}
 use Rattle.naive_tests.proofs.Choosing.{falls_to, jumps_to}
-use Rattle.naive_statements.proofs.Asked.{Above, Way_from, Past, Back, After, after_since, with_way, StepsDo, past_opens}
+use Rattle.naive_statements.proofs.Asked.{Way_from, Past, After, after_since, with_way, StepsDo, past_opens}
 
 module _ (t : Target) (u : Image) (m : Fixed) (source : Typed) (f : Function) (k : Call) (ready : Ready t u m source f k) (n : ℕ) where
   abbrev Code : List Op → Place → Place → Type 0

@@ -1,27 +1,24 @@
 -- What stands before a loop: declarations in order, or an expression (C11 6.8.5.3).
-use Rattle.std.proofs.Common.{◌≡◌, ℕ, suc, ◌+◌, ◌≤◌, List, [], ◌∷◌, ◌++◌, Option, Some, None, refl, sym, ap, ◌∙◌, subst, arith}
+use Rattle.std.proofs.Common.{◌≡◌, ℕ, ◌+◌, List, [], ◌∷◌, Option, Some, None, refl, sym, subst, arith}
 use Rattle.md_shapes.specs.Shapes.{Frame as Fixed}
-use Rattle.c_tree.specs.declared.types.CType.{CType}
 use Rattle.c_tree.specs.declared.typed.Object.{Object as Thing}
 use Rattle.c_tree.specs.declared.typed.TypedExpr.{TypedExpr}
 use Rattle.c_tree.specs.declared.typed.Local.{Local}
 use Rattle.c_tree.specs.declared.typed.Function.{Function}
 use Rattle.c_tree.specs.declared.typed.Typed.{Typed}
-use Rattle.c_meaning.specs.Parts.{State, Part, then_do, give}
+use Rattle.c_meaning.specs.Parts.{then_do, give}
 use Rattle.c_meaning.specs.Expressions.{World, meaning}
-use Rattle.c_meaning.specs.Statements.{Flow, next, Does as SourceDoes, all_unset, initialise, declare, evaluated}
+use Rattle.c_meaning.specs.Statements.{next, Does as SourceDoes, all_unset, initialise, declare, evaluated}
 use Rattle.temp_machine.specs.Routines.{Image, Target}
 use Rattle.temp_machine.specs.Live.{Place}
-use Rattle.temp_machine.specs.Small.{Point}
 use Rattle.naive_code.specs.Operations.{Op}
-use Rattle.naive_code.specs.Storage.{scalar_count}
 use Rattle.naive_code.specs.Expressions.{Site, naive}
-use Rattle.naive_code.specs.Statements.{Around, Steps, no_steps, joined, init_steps, locals_steps, evaluated as evaluated_steps}
-use Rattle.naive_step.proofs.Doing.{Does, does_then, does_on, there}
-use Rattle.naive_step.proofs.Making.{Call, Inside, At, routine_in}
+use Rattle.naive_code.specs.Statements.{Steps, no_steps, joined, init_steps, locals_steps, evaluated as evaluated_steps}
+use Rattle.naive_step.proofs.Doing.{does_then, does_on, there}
+use Rattle.naive_step.proofs.Making.{Call, At}
 use Rattle.naive_assigned.proofs.Ready.{Ready}
 use Rattle.naive_values.proofs.Getting.{Ops, stands_split}
-use Rattle.naive_values.proofs.Asked.{Stands_for, ValueDoes}
+use Rattle.naive_values.proofs.Asked.{ValueDoes}
 use Rattle.naive_statements.proofs.Asked.{Past, past_since}
 use Rattle.naive_statements.proofs.For.{PastDo, dropped_past}
 use Rattle.naive_statements.proofs.Blocks.{rep_all_unset}

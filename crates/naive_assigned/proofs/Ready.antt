@@ -128,7 +128,7 @@ module _ (t : Target) (u : Image) (m : Fixed) (source : Typed) (f : Function) (k
   outgoing_stand =
       let first = ready.expands.first_home in
       let fits = outgoing_end t.word (frame_words t.kept f - slots_of f) outgoing (length t.kept) size_of
-          (before_homes outgoing (length t.kept) (length f.params) (scalars f.locals) (greatest_in depth_of f.body)) in
+      (before_homes outgoing (length t.kept) (length f.params) (scalars f.locals) (greatest_in depth_of f.body)) in
       omega (arith, first, fits)
 
   reach_data : (a : ℕ) → t.base ≤ a → a < t.base + length u.bytes → may_touch t u (active t u k) k.callers a ≡ true

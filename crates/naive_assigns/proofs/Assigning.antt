@@ -126,17 +126,17 @@ module _ (t : Target) (u : Image) (m : Fixed) (source : Typed) (f : Function) (k
       let s' = stored s x.variable x.index (Some y) in
       let from = e.from in let settled_at = e.settled_at in let spared = e.spared in
       let to = to_then t u m source f k ready parts.0 q (Puts t u m source f k ready spare s' d) (Ended (settled_in p a v) z first s' d) d
-          (puts t u m source f k ready r parts.0 d i at s rep x p a b spare y e.kept e.holds e.typed e.small (omega (arith, fresh, spared)) e.other parts.1)
-          (λ g j at' h.
-          to_as t u m source f k ready q _ _ g
-          (settles t u m source f k ready parts.0 q g j at' s' h.rep p a v first z (h.temps v (omega (arith, fresh, from)) e.other_whole ∙ e.whole) parts.2)
-          (λ w o. record {
-            rep = rep_works t u m source f k ready (settled_in p a v) first g w (omega (arith, fresh, settled_at)) fresh o.works s' h.rep;
-            since = since_trans t u m source f k ready first first d g w (omega arith) (since_puts t u m source f k ready first spare s' d g spared h)
-                (since_works t u m source f k ready first (settled_in p a v) first g w settled_at (omega arith) o.works);
-            temp = o.temp;
-            printed = o.works.printed ∙ h.printed;
-          })) in
+      (puts t u m source f k ready r parts.0 d i at s rep x p a b spare y e.kept e.holds e.typed e.small (omega (arith, fresh, spared)) e.other parts.1)
+      (λ g j at' h.
+      to_as t u m source f k ready q _ _ g
+      (settles t u m source f k ready parts.0 q g j at' s' h.rep p a v first z (h.temps v (omega (arith, fresh, from)) e.other_whole ∙ e.whole) parts.2)
+      (λ w o. record {
+        rep = rep_works t u m source f k ready (settled_in p a v) first g w (omega (arith, fresh, settled_at)) fresh o.works s' h.rep;
+        since = since_trans t u m source f k ready first first d g w (omega arith) (since_puts t u m source f k ready first spare s' d g spared h)
+            (since_works t u m source f k ready first (settled_in p a v) first g w settled_at (omega arith) o.works);
+        temp = o.temp;
+        printed = o.works.printed ∙ h.printed;
+      })) in
       came t u n d to.point (Has t u m source f k ready of (settled_in p a v) first q c) (word z) s' to.comes to.fact.printed (record {
         inside = to.inside;
         at = to.at;
@@ -201,8 +201,8 @@ module _ (t : Target) (u : Image) (m : Fixed) (source : Typed) (f : Function) (k
             let g = step_gives t.word of o x z ready.target.size e in
             let ne : b ≢ one = λ e. omega (arith, e, lt) in
             let to = gets_after t u m source f k ready b z one r1 q (SetsTemp one (Some 1) d) d (sets_number t u m source f k ready r r1 d i at' one 1 first)
-                (λ y h. works_fresh t u m source f k one b one d y (omega arith) (works_sets t u m source f k one one (Some 1) d y h))
-                (λ y j at2 h. operated t u m source f k ready r1 q y j at2 (step_operator o) b one x 1 z one (h.others b ne ∙ holds) h.temp g.value second) in
+            (λ y h. works_fresh t u m source f k one b one d y (omega arith) (works_sets t u m source f k one one (Some 1) d y h))
+            (λ y j at2 h. operated t u m source f k ready r1 q y j at2 (step_operator o) b one x 1 z one (h.others b ne ∙ holds) h.temp g.value second) in
             came t u n d to.point (Has_word t u m source f k ready type.Unsigned b b q d) z s to.comes to.fact.works.printed (record {
               inside = to.inside;
               at = to.at;

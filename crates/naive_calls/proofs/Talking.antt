@@ -94,14 +94,17 @@ module _ (t : Target) (u : Image) (m : Fixed) (source : Typed) (f : Function) (k
             → Does t u n c (Has t u m source f k ready of first first q c) (give (word x) s')
         finish x s' small took =
             let to = to_then t u m source f k ready r q _ (λ e. (Stands_for t u m source f k ready s' e × Since t u m source f k ready first c e) × ((e.view.cells (Temp first) ≡ Some x) × (e.printed ≡ c.printed))) c taken
-                (λ d j at g.
-                let b = took d g in
-                to_as t u m source f k ready q _ _ d (reads_result t u m source f k ready first r q d j at rest)
-                (λ e w.
-                let works = works_sets t u m source f k first first (d.view.cells (Hard t.result)) d e w in
-                ((rep_works t u m source f k ready first first d e fresh fresh works s' b.rep,
-                since_trans t u m source f k ready first first c d e (omega arith) (record { temps = λ j from below. b.temps j; above = λ a from. b.bytes a }) (since_works t u m source f k ready first first first d e (omega arith) (omega arith) works)),
-                (w.temp ∙ b.result, w.printed ∙ b.printed)))) in
+            (λ d j at g.
+            let b = took d g in
+            to_as t u m source f k ready q _ _ d (reads_result t u m source f k ready first r q d j at rest)
+            (λ e w.
+            let works = works_sets t u m source f k first first (d.view.cells (Hard t.result)) d e w in (
+              (
+                rep_works t u m source f k ready first first d e fresh fresh works s' b.rep,
+                since_trans t u m source f k ready first first c d e (omega arith) (record { temps = λ j from below. b.temps j; above = λ a from. b.bytes a }) (since_works t u m source f k ready first first first d e (omega arith) (omega arith) works),
+              ),
+              (w.temp ∙ b.result, w.printed ∙ b.printed),
+            ))) in
             came t u n c to.point (Has t u m source f k ready of first first q c) (word x) s' to.comes to.fact.1.1 (record {
               inside = to.inside;
               at = to.at;

@@ -90,12 +90,15 @@ module _ (t : Target) (u : Image) (m : Fixed) (source : Typed) (f : Function) (k
       → To_begin (reached_at t u m source f k ready (leaves sense v) target q) d → Does t u n d (Tested_value t u m source f k ready P sense target first q c) (give (word v) s)
   tested P sense target first v q c d s known fresh rep since r =
       let works = works_opens first first d r.point r.fact in
-      came t u n d r.point (Tested_value t u m source f k ready P sense target first q c) (word v) s r.comes r.fact.printed (known, record {
-        inside = r.inside;
-        at = r.at;
-        rep = rep_works t u m source f k ready first first d r.point fresh fresh works s rep;
-        since = since_trans t u m source f k ready first first c d r.point (omega arith) since (since_works t u m source f k ready first first first d r.point (omega arith) (omega arith) works);
-      })
+      came t u n d r.point (Tested_value t u m source f k ready P sense target first q c) (word v) s r.comes r.fact.printed (
+        known,
+        record {
+          inside = r.inside;
+          at = r.at;
+          rep = rep_works t u m source f k ready first first d r.point fresh fresh works s rep;
+          since = since_trans t u m source f k ready first first c d r.point (omega arith) since (since_works t u m source f k ready first first first d r.point (omega arith) (omega arith) works);
+        },
+      )
 
   -- a value is compared with 0
   pub test_of_does : (of : CType) (x : State → Part Result) (v : Value) → IsFresh v → ValueDoes t u m source f k ready n of x v → TestDoes t u m source f k ready n Any x (test_of v)
@@ -192,13 +195,15 @@ module _ (t : Target) (u : Image) (m : Fixed) (source : Typed) (f : Function) (k
   -- what was tested since a later point was so since an earlier one, and so of a value whose truth is the same
   again : (P : Result → Type 0) (sense : Bool) (target first later v w : ℕ) (q : Place) (c d e : Point) (s : State) → P (word w) → leaves sense v ≡ leaves sense w → first ≤ later → Since t u m source f k ready first c d
       → Tested t u m source f k ready sense target later q d v s e → Tested_value t u m source f k ready P sense target first q c (word w) s e
-  again P sense target first later v w q c d e s known same le since g =
-      (known, record {
-        inside = g.inside;
-        at = subst (λ b. At t u (reached_at t u m source f k ready b target q) e) same g.at;
-        rep = g.rep;
-        since = since_trans t u m source f k ready first later c d e le since g.since;
-      })
+  again P sense target first later v w q c d e s known same le since g = (
+    known,
+    record {
+      inside = g.inside;
+      at = subst (λ b. At t u (reached_at t u m source f k ready b target q) e) same g.at;
+      rep = g.rep;
+      since = since_trans t u m source f k ready first later c d e le since g.since;
+    },
+  )
 
   -- the second test decides: its truth is that of the whole
   second_test : (Q : Result → Type 0) (y : State → Part Result) (b : Test) → TestDoes t u m source f k ready n Q y b → (sense : Bool) (target next first label later : ℕ) (r q : Place) (c d : Point) (s : State) → scalar_count f ≤ first

@@ -1,5 +1,5 @@
 use Rattle.std.proofs.Common.{◌≡◌, ℕ, Bool, true, false, sym, ap, subst, ◌∙◌}
-use Rattle.asm_line.specs.Walk.{IsLine}
+use Rattle.asm_row.specs.Walk.{IsLine}
 use Rattle.asm_program.specs.declared.places.Part.{Part}
 use Rattle.asm_program.specs.Rules.{is_in_place}
 use Rattle.asm_labels.specs.declared.saying.Said.{Said as Held}

@@ -107,15 +107,21 @@ fn first_fault(
     Ok(None)
 }
 
-/// The line and the rule that are told of a text, or none where it keeps the rules.
-pub fn fault_of(alloc: Global, rows: &RowIndex<'_>, text: &[u8]) -> Result<Option<Told>, NoMemory>
-    requires readable { IsReadable rows.now }
-    ensures { IfOk result (λ told. IsJudged rows.now text.now told) }
+/// The line and the rule that are told of a text, or none where it keeps the rules. An index has the rows of the description.
+pub fn fault_of(
+    alloc: Global,
+    d: &RawDescription,
+    rows: &RowIndex<'_>,
+    text: &[u8],
+) -> Result<Option<Told>, NoMemory>
+    requires readable { IsReadable d.now }
+    requires rows { rows.now ≡ d.now }
+    ensures { IfOk result (λ told. IsJudged d.now text.now told) }
 {
     says_one_thing();
     if is_blank(text) {
         return Ok(Some(blank_fault(text)));
     }
     let labels = labels_of(alloc, text)?;
-    first_fault(alloc, rows.description(), rows, &labels, text)
+    first_fault(alloc, d, rows, &labels, text)
 }

@@ -19,7 +19,7 @@ use Rattle.md_rows.specs.declared.row.Piece.{Piece}
 use Rattle.md_rows.specs.declared.row.Piece.TheVariants.{Name, Num, Byte, Hole as HolePiece}
 use Rattle.asm_row.specs.declared.listing.Index.{Index}
 use Rattle.asm_row.specs.Reading.{Value, ReadsText, IsReading}
-use Rattle.asm_row.specs.Found.{NoRow}
+use Rattle.asm_row.specs.Found.{IsRowRead, NoRow}
 use Rattle.asm_row.specs.Index.{listed, places_under, first_name, first_word, IsAdded, AreListed, IsReadAt, NoneAmong}
 use Rattle.asm_row.proofs.HoleValues.{same_item}
 
@@ -97,6 +97,14 @@ listed_more d old new count row before at a i r lt e = by (earlier i lt)
     by (inr same) =
         subst (λ (k : ℕ). Contains (places_under new (first_name r.text)) k) (sym same)
         (subst (λ (x : Row). Contains (places_under new (first_name x.text)) count) (same_item row r (sym at ∙ ap (slice_get d.rows) (sym same) ∙ e)) a.is_there)
+
+-- what the row at a place reads
+pub at_row : (d : RawDescription) (ts : List Token) (place : ℕ) (row : Row) (o : Option (List Value)) → slice_get d.rows place ≡ Some row → IsRowRead d row ts o → IsReadAt d ts place o
+at_row d ts place row None e r = λ other vs f k. r vs (subst (λ (x : Row). IsReading d x ts vs) (same_item other row (sym f ∙ e)) k)
+at_row d ts place row (Some vs) e r = record { row = row; has = e; reading = r }
+
+pub not_there : (row : Row) → None ≡ Some row → ⊥
+not_there row e = cc
 
 -- a row begins with no name, or with the line's
 begins : (w : ℕ) (rs : List Register) (ps : List Piece) (hs : List Hole) (ts : List Token) (vs : List Value) → ReadsText w rs ps hs ts vs

@@ -6,7 +6,7 @@ ghost use Rattle.asm_row.specs.Walk.{IsLine};
 ghost use Rattle.asm_row.specs.Readable.{IsReadable};
 ghost use Rattle.asm_row.specs.Found.{IsFound, NoRow, values_of};
 
-use crate::among::find_by;
+use crate::finding::find_by;
 use crate::listing::{Index, index_of};
 use crate::reading::Values;
 use md_rows::RawDescription;
@@ -47,13 +47,6 @@ impl<'d> RowIndex<'d> {
             description: d,
             index,
         })
-    }
-
-    /// The description of these rows.
-    pub fn description(&self) -> &'d RawDescription
-        ensures { result.now ≡ self.now }
-    {
-        self.description
     }
 
     /// The row of which a text is a line, and what stands in the row's holes.

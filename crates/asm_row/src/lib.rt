@@ -3,13 +3,13 @@
 //! - `tokens`: a text is read token by token.
 //! - `registers`, `values`: what a token says of a hole.
 //! - `reading`: `find_row`, which tries the rows in order.
-//! - `listing`, `among`, `index`: `RowIndex`, by which the same row is found among those that begin as the text does.
+//! - `listing`, `finding`, `index`: `RowIndex`, by which the same row is found among those that begin as the text does.
 //!
 //! specs/Line.antt says what the line of an instance is, specs/Reading.antt what its tokens say, specs/Readable.antt of which descriptions
 //! lines can be read, specs/Found.antt what is found, and specs/Index.antt where a row is listed.
 #![tactic(auto)]
 
-mod among;
+mod finding;
 mod index;
 mod listing;
 mod reading;

@@ -72,7 +72,7 @@ fn read_by(
     ensures text { IfOk result (λ p. IsText d.now text.now p) }
     ensures bad { IfErr result (λ f. IsFaultOf d.now text.now f) }
 {
-    match fault_of(alloc, rows, text) {
+    match fault_of(alloc, d, rows, text) {
         Err(NoMemory) => Err(AsmFault::NoMemory),
         Ok(Some((line, rule))) => Err(fault_at(line, rule)),
         Ok(None) => match program_of(alloc, d, rows, text) {

@@ -1,6 +1,6 @@
 //! Rows at some places, read from the text of a line.
 
-ghost use Rattle.std.specs.Prelude.{◌≡◌, List, MatchOption, length, option_map};
+ghost use Rattle.std.specs.Prelude.{◌≡◌, List, MatchOption, None, Some, length, option_map, slice_get};
 ghost use Rattle.asm_token.specs.Tokens.{Token};
 ghost use Rattle.asm_row.specs.Walk.{IsLine};
 ghost use Rattle.asm_row.specs.Readable.{IsReadable};
@@ -9,14 +9,20 @@ ghost use Rattle.asm_row.specs.Index.{AreListed, IsReadAt, NoneAmong};
 
 use crate::listing::{Index, first_word, places_under};
 use crate::reading::{Values, read_row};
-use md_rows::RawDescription;
+use md_rows::{RawDescription, Row};
+
+fn row_if_there(d: &RawDescription, place: u16) -> Option<&Row>
+    ensures { MatchOption result (slice_get d.now.rows place ≡ None) (λ row. slice_get d.now.rows place ≡ Some row.now) }
+{
+    d.rows.as_slice().get(usize::from(place))
+}
 
 // What the text of a line says of the holes of the row at a place.
 fn read_at<'a>(d: &RawDescription, place: u16, text: &'a [u8]) -> Option<Values<'a>>
     requires readable { IsReadable d.now }
     ensures { (ts : List Token) → IsLine text.now ts → IsReadAt d.now ts place (option_map (λ values. values_of values.items) result) }
 {
-    match d.rows.as_slice().get(usize::from(place)) {
+    match row_if_there(d, place) {
         Some(row) => read_row(d, row, text),
         None => None,
     }

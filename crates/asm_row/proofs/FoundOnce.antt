@@ -1,5 +1,5 @@
 -- The tokens of a line say the same of one row alone.
-use Rattle.std.proofs.Common.{◌≡◌, ℕ, List, slice_get, Some, sym, ap, subst, ◌∙◌}
+use Rattle.std.proofs.Common.{◌≡◌, ℕ, List, slice_get, sym, ap, subst, ◌∙◌}
 use Rattle.asm_token.specs.Tokens.{Token}
 use Rattle.md_rows.specs.declared.description.RawDescription.{RawDescription}
 use Rattle.md_rows.specs.declared.row.Row.{Row}
@@ -8,7 +8,7 @@ use Rattle.asm_row.specs.Reading.{Value, ReadsText}
 use Rattle.asm_row.specs.Found.{IsFound}
 use Rattle.asm_row.proofs.HoleValues.{same_item}
 use Rattle.asm_row.proofs.Texts.{text_once}
-use Rattle.asm_row.proofs.Unique.{same_place, RowReads}
+use Rattle.asm_row.proofs.Unique.{same_place}
 
 module _ (d : RawDescription) (readable : IsReadable d) (ts : List Token) where
   pub found_once : (i j : ℕ) (vs us : List Value) → IsFound d ts i vs → IsFound d ts j us → vs ≡ us

@@ -1,26 +1,19 @@
 -- Rows by the first tokens of their texts.
-use Rattle.std.proofs.Common.{◌≡◌, ◌⊎◌, inl, inr, ℕ, suc, ◌+◌, ◌<◌, Bool, true, false, cond, List, [], ◌∷◌, ◌++◌, length, slice_get, All, Contains, refl, sym, ap, subst, ◌∙◌, append-nil, arith}
+use Rattle.std.proofs.Common.{◌≡◌, ◌⊎◌, inl, inr, ℕ, ◌+◌, ◌<◌, Bool, true, false, cond, List, [], ◌∷◌, ◌++◌, slice_get, Contains, refl, sym, ap, subst, ◌∙◌, append-nil, arith}
 use Rattle.std.specs.Bool.{Decides}
-use Rattle.std.specs.Borrow.{Bor}
 use Rattle.std.specs.Global.{Vec}
-use Rattle.std.specs.HashMap.{HashMap}
 use Rattle.std.specs.Option.{option_map_or, unwrap_or}
 use Rattle.std.specs.Prelude.{Option, Some, None}
 use Rattle.std.specs.Str.{bytes_eq}
-use Rattle.std.proofs.lemmas.List.Elements.{All-from_recursion, All-contains, Contains-append_left, Contains-append_right}
-use Rattle.std.proofs.lemmas.Option.{slice_get_within}
+use Rattle.std.proofs.lemmas.List.Elements.{Contains-append_left, Contains-append_right}
 use Rattle.std.proofs.lemmas.Slice.Eq.{bytes_eq-Decides}
-use Rattle.asm_token.specs.Tokens.{Token, Name as NameToken, Number as NumberToken, Mark as MarkToken}
-use Rattle.md_rows.specs.declared.description.Register.{Register}
+use Rattle.asm_token.specs.Tokens.{Token}
 use Rattle.md_rows.specs.declared.description.RawDescription.{RawDescription}
 use Rattle.md_rows.specs.declared.row.Row.{Row}
-use Rattle.md_rows.specs.declared.row.Hole.{Hole}
-use Rattle.md_rows.specs.declared.row.Piece.{Piece}
-use Rattle.md_rows.specs.declared.row.Piece.TheVariants.{Name, Num, Byte, Hole as HolePiece}
 use Rattle.asm_row.specs.declared.listing.Index.{Index}
-use Rattle.asm_row.specs.Reading.{Value, ReadsText, IsReading}
-use Rattle.asm_row.specs.Found.{IsRowRead, NoRow}
-use Rattle.asm_row.specs.Index.{listed, places_under, first_name, first_word, IsAdded, AreListed, IsReadAt, NoneAmong}
+use Rattle.asm_row.specs.Reading.{Value, IsReading}
+use Rattle.asm_row.specs.Found.{IsRowRead}
+use Rattle.asm_row.specs.Index.{listed, places_under, first_name, IsAdded, AreListed, IsReadAt}
 use Rattle.asm_row.proofs.HoleValues.{same_item}
 
 abbrev pub items_or_none : Option (Vec ℕ) → List ℕ
@@ -81,9 +74,6 @@ added_other old new place each pushed = added old new None place (under_none pla
     all (Some other) = each other ∙ sym (append-nil (listed old.named other))
     all None = pushed
 
-pub none_listed : (d : RawDescription) (x : Index) → AreListed d 0 x
-none_listed d x i row lt e = absurd (omega (arith, lt))
-
 -- one row more
 pub listed_more : (d : RawDescription) (old new : Index) (count : ℕ) (row : Row) → AreListed d count old → slice_get d.rows count ≡ Some row
     → IsAdded old new (first_name row.text) count → AreListed d (count + 1) new
@@ -105,28 +95,3 @@ at_row d ts place row (Some vs) e r = record { row = row; has = e; reading = r }
 
 pub not_there : (row : Row) → None ≡ Some row → ⊥
 not_there row e = cc
-
--- a row begins with no name, or with the line's
-begins : (w : ℕ) (rs : List Register) (ps : List Piece) (hs : List Hole) (ts : List Token) (vs : List Value) → ReadsText w rs ps hs ts vs
-    → (first_name ps ≡ None) ⊎ (first_name ps ≡ first_word ts)
-begins w rs [] hs ts vs r = inl refl
-begins w rs (Name bytes ∷ ps) hs (t ∷ ts) vs r = inr (ap (λ (x : Token). first_word (x ∷ ts)) r.0)
-begins w rs (Name bytes ∷ ps) hs [] vs r = absurd r
-begins w rs (Num z ∷ ps) hs ts vs r = inl refl
-begins w rs (Byte b ∷ ps) hs ts vs r = inl refl
-begins w rs (HolePiece k ∷ ps) hs ts vs r = inl refl
-
--- where no row that begins as the line does and none that begins otherwise is the line's, none is
-pub none_found : (d : RawDescription) (x : Index) (ts : List Token) → AreListed d (length d.rows) x → NoneAmong d ts (places_under x (first_word ts))
-    → NoneAmong d ts (places_under x None) → NoRow d ts
-none_found d x ts all named others i row vs e r = by (begins d.word d.registers row.text row.holes ts vs r.reads)
-  where
-    stands : Contains (places_under x (first_name row.text)) i
-    stands = all i row (slice_get_within d.rows i row e) e
-
-    never : (places : List ℕ) → NoneAmong d ts places → Contains places i → ⊥
-    never places none c = All-contains (λ place. IsReadAt d ts place None) places i (All-from_recursion (λ place. IsReadAt d ts place None) places none) c row vs e r
-
-    by : (first_name row.text ≡ None) ⊎ (first_name row.text ≡ first_word ts) → ⊥
-    by (inl n) = never (places_under x None) others (subst (λ (k : Option (List ℕ)). Contains (places_under x k) i) n stands)
-    by (inr n) = never (places_under x (first_word ts)) named (subst (λ (k : Option (List ℕ)). Contains (places_under x k) i) n stands)

@@ -1,6 +1,6 @@
 //! The program of a text that keeps the rules.
 
-ghost use Rattle.std.specs.Prelude.{IfOk};
+ghost use Rattle.std.specs.Prelude.{◌≡◌, IfOk};
 ghost use Rattle.asm_row.specs.Readable.{IsReadable};
 ghost use Rattle.asm_program.specs.Programs.{IsText};
 ghost use Rattle.asm_text.specs.Read.{KeepsRules};

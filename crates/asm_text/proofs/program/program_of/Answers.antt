@@ -18,10 +18,11 @@ lines_of-requires-clause-readable c = subst IsReadable (sym c.requires.rows) c.r
 
 pub lines_of-requires-clause-text : goal.lines_of-requires-clause-text
 lines_of-requires-clause-text c =
-    let t = c.requires.text in
-    (t.0,
-    subst (λ (x : RawDescription). IsNamedText x c.in_ok-names.names c.args.text.now t.0) (sym c.requires.rows)
-    (record { said = t.1; sound = t.2; labels = have_labels c.in_ok-names.names t.0 (c.in_ok-names.ensures t.0 (record { said = t.1; sound = t.2 })) }))
+    let t = c.requires.text in (
+      t.0,
+      subst (λ (x : RawDescription). IsNamedText x c.in_ok-names.names c.args.text.now t.0) (sym c.requires.rows)
+          (record { said = t.1; sound = t.2; labels = have_labels c.in_ok-names.names t.0 (c.in_ok-names.ensures t.0 (record { said = t.1; sound = t.2 })) }),
+    )
 
 pub data_of-requires-clause-lines : goal.data_of-requires-clause-lines
 data_of-requires-clause-lines c =
@@ -32,7 +33,7 @@ pub invariant_of-result : goal.invariant_of-result
 invariant_of-result c =
     let t = c.requires.text in
     let made : (all : List Said) → IsNamedText c.args.d.now c.in_ok-names.names c.args.text.now all
-        → AllZip (IsBoundLine c.args.d.now c.in_ok-names.names) (instructions all) c.in_ok-lines.lines.items =
+    → AllZip (IsBoundLine c.args.d.now c.in_ok-names.names) (instructions all) c.in_ok-lines.lines.items =
     subst (λ (x : RawDescription). (all : List Said) → IsNamedText x c.in_ok-names.names c.args.text.now all
     → AllZip (IsBoundLine x c.in_ok-names.names) (instructions all) c.in_ok-lines.lines.items) c.requires.rows c.in_ok-lines.ensures in
     let names = c.in_ok-names.ensures t.0 (record { said = t.1; sound = t.2 }) in
@@ -56,7 +57,7 @@ pub returns : goal.returns
 returns c =
     let t = c.requires.text in
     let made : (all : List Said) → IsNamedText c.args.d.now c.in_ok-names.names c.args.text.now all
-        → AllZip (IsBoundLine c.args.d.now c.in_ok-names.names) (instructions all) c.in_ok-lines.lines.items =
+    → AllZip (IsBoundLine c.args.d.now c.in_ok-names.names) (instructions all) c.in_ok-lines.lines.items =
     subst (λ (x : RawDescription). (all : List Said) → IsNamedText x c.in_ok-names.names c.args.text.now all
     → AllZip (IsBoundLine x c.in_ok-names.names) (instructions all) c.in_ok-lines.lines.items) c.requires.rows c.in_ok-lines.ensures in
     let names = c.in_ok-names.ensures t.0 (record { said = t.1; sound = t.2 }) in

@@ -7,7 +7,7 @@ compiles with checks, so that its times are a hundred times longer; there the so
 prints for each how long its parts took, which leaves out the start of the process and the reading.
 
 The sources have up to 1 MiB: many functions; one function of many statements; blocks that nest to the limit, each with names of its own
-and uses of those around it; and one switch of many cases.
+and uses of those around it; values of an initialiser; objects of the file, and of one block; and one switch of many cases.
 """
 import os
 import shutil
@@ -94,6 +94,18 @@ def blocks(size):
     return repeated("int main(void){", nest, "}", size)
 
 
+def values(size):
+    return repeated("int a[]={0", lambda n: f",{n % 1000}", "};" + END, size)
+
+
+def statics(size):
+    return repeated("", lambda n: f"int a{n};", END, size)
+
+
+def locals_of_one(size):
+    return repeated("int main(void){", lambda n: f"int a{n};", "}", size)
+
+
 def cases(size):
     return repeated("int main(void){switch(1){", lambda n: f"case {n}:;", "}}", size)
 
@@ -129,6 +141,9 @@ def main():
         ("many functions", functions),
         ("one function of many statements", statements),
         ("deep blocks with many names", blocks),
+        ("values of an initialiser", values),
+        ("objects of the file", statics),
+        ("objects of one block", locals_of_one),
         ("one switch of many cases", cases),
     ]
     sizes = [size // 32 if unproved else size for size in SIZES]

@@ -1,11 +1,12 @@
-//! Sources against the limits on frames, weights and statics (rules 41 to 43), in the layouts of the pdp11 and mips descriptions.
+//! Frames and weights of sources, and sources against the limits on frames, weights and statics (rules 41 to 43) in the layouts of the
+//! pdp11 and mips descriptions.
 
-use crate::page::Page;
-use crate::rows::{Row, check};
+use crate::rows::check;
 use crate::typing::{BOTH, typed_of};
-use c_limits::{frame_of, within};
-use c_tree::Function;
-use rtl_word::{W16, W32};
+use c_examples::page::Page;
+use c_examples::rows::Row;
+use c_limits::{frame_of, weight_of, within};
+use rtl_word::{W16, W32, Word};
 use std::alloc::Global;
 use vp_io::Reason;
 
@@ -383,39 +384,46 @@ fn limits_are_told(rt: HostRuntime) {
     check(&rt, rt.alloc(), "limits", &ROWS);
 }
 
-/// A source, and the frames of its first function and of its last one, where a word has 16 bits.
-struct Framed(&'static str, u64, u64);
+/// A source, and of its first function the frame where a word has 16 bits and where it has 32, and the weight.
+struct Framed(&'static str, u64, u64, u64);
 
-const FRAMES: [Framed; 3] = [
-    Framed("int main(void){return 0;}", 50, 50),
-    Framed("int main(void){}", 46, 46),
+const FRAMES: [Framed; 6] = [
+    Framed("int main(void){}", 46, 92, 48),
+    Framed("int main(void){return 0;}", 50, 100, 53),
+    Framed("int main(void){int a[8000];return 0;}", 16_050, 32_100, 53),
     Framed(
         "int d(int n){if(n==0)return 0;return 1+d(n-1);}int main(void){return d(228);}",
         68,
-        54,
+        136,
+        91,
     ),
+    Framed(
+        "int d(int n);int main(void){return d(228);}int d(int n){return n;}",
+        54,
+        108,
+        60,
+    ),
+    Framed("int main(void){char c;c=1;}", 66, 132, 60),
 ];
 
-fn frame_in(f: Option<&Function>) -> u64 {
-    match f {
-        Some(f) => frame_of::<W16>(f),
-        None => 0,
+fn is_framed<W: Word>(alloc: Global, source: &str, frame: u64, weight: u64) -> bool {
+    match typed_of::<W>(alloc, source.as_bytes()) {
+        Ok(tree) => match tree.functions.as_slice() {
+            [f, ..] => frame_of::<W>(f) == frame && weight_of(f) == weight,
+            [] => false,
+        },
+        Err(_) => false,
     }
 }
 
 impl Row for Framed {
     fn holds(&self, alloc: Global) -> bool {
-        match typed_of::<W16>(alloc, self.0.as_bytes()) {
-            Ok(tree) => {
-                let functions = tree.functions.as_slice();
-                frame_in(functions.first()) == self.1 && frame_in(functions.last()) == self.2
-            }
-            Err(_) => false,
-        }
+        is_framed::<W16>(alloc, self.0, self.1, self.3)
+            && is_framed::<W32>(alloc, self.0, self.2, self.3)
     }
 }
 
 #[test]
-fn frames_of_sources(rt: HostRuntime) {
+fn frames_and_weights(rt: HostRuntime) {
     check(&rt, rt.alloc(), "frames", &FRAMES);
 }

@@ -3,19 +3,19 @@ use Rattle.std.proofs.Common.{◌≡◌, ℕ, suc, ◌+◌, ◌<◌, ◌≤◌, 
 use Rattle.std.proofs.lemmas.Nat.{pow_pos}
 use Rattle.rtl_tree.specs.Moves.{Move}
 use Rattle.md_rows.specs.declared.description.RawDescription.{RawDescription}
-use Rattle.md_rows.specs.declared.row.Row.{Row}
-use Rattle.md_covers.specs.Covers.{IsRowMove}
 use Rattle.md_said.specs.Sound.{SaidIsSound}
+use Rattle.md_bounds.specs.Bounds.{SaidIsBounded}
 use Rattle.md_check.specs.Checking.{IsChecked}
-use Rattle.md_check.proofs.Telling.{checked_rows}
 use Rattle.asm_program.specs.Programs.{Assembled, IsAssembled}
 use Rattle.machine_run.specs.Machine.{Code}
+use Rattle.machine_effect.specs.Law.{IsMade}
 use Rattle.machine_turn.specs.Held.{IsMadeMove}
-use Rattle.machine_step.specs.Steps.{IsCode, IsReady}
+use Rattle.machine_step.specs.Steps.{IsCode}
 use Rattle.machine_step.specs.Runs.{IsCodeOf, linked_moves}
 use Rattle.rtl_machine.specs.declared.parts.Parts.{Parts}
-use Rattle.rtl_machine.specs.Loading.{code_of, linked_line, memory_with_data, IsLoadable, IsMachine, IsLoaded}
+use Rattle.rtl_machine.specs.Loading.{code_of, linked_line, memory_with_data, IsLoadable, IsLoaded}
 use Rattle.rtl_machine.proofs.Filled.{lines_linked, code_made}
+use Rattle.rtl_machine.proofs.Made.{checked_machine, program_made}
 use Rattle.rtl_machine.proofs.Starting.{run_start}
 
 word_is : (w : ℕ) (d : RawDescription) → IsChecked w d → d.word ≡ w
@@ -25,26 +25,37 @@ map_length : {A B : Type 0} (f : A → B) (xs : List A) → length (map f xs) �
 map_length f [] = refl
 map_length f (x ∷ xs) = ap (λ n. suc n) (map_length f xs)
 
-module _ (w : ℕ) (d : RawDescription) (p : Assembled) (sound : SaidIsSound) (checked : IsChecked w d) (loadable : IsLoadable w d p)
-    (code : List (List Move)) (lines : code ≡ map (linked_line d p) p.lines) where
+module _ (w : ℕ) (d : RawDescription) (p : Assembled) (sound : SaidIsSound) (bounded : SaidIsBounded) (checked : IsChecked w d) (assembled : IsAssembled p)
+    (loadable : IsLoadable d p) (code : List (List Move)) (lines : code ≡ map (linked_line d p) p.lines) where
+  abbrev word : d.word ≡ w
+  word = word_is w d checked
+
   code_is : code ≡ map (linked_moves (code_of d p)) (code_of d p).transfers
-  code_is = lines ∙ lines_linked (code_of d p) d.rows p.lines (λ k row e. (checked_rows w d sound checked k row e).effects)
+  code_is = lines ∙ lines_linked (code_of d p) d.rows p.lines (λ k row e. ((checked_machine w d sound bounded checked).rows k row e).effects)
+
+  made : All (IsMade w) (code_of d p).transfers
+  made =
+      subst (λ v. All (IsMade v) (code_of d p).transfers) word
+      (program_made d p (checked_machine w d sound bounded checked) loadable.instances assembled.named)
 
   pub loaded_code : IsCodeOf w (code_of d p) code
-  loaded_code = record { word = word_is w d checked; made = loadable.made; code_is = code_is }
+  loaded_code = record { word = word; made = made; code_is = code_is }
 
-  labels_below : IsAssembled p → All (λ e. e.at < 2 ^ w) p.labels
-  labels_below a k e within =
-      let at : e.at ≤ length p.lines = a.within k e within in
-      let short : length p.lines < 2 ^ w = loadable.short in
-      omega (arith, at, short)
+  short : length p.lines < 2 ^ w
+  short = subst (λ v. length p.lines < 2 ^ v) word loadable.short
 
-  pub code_ready : IsAssembled p → IsCode w code
-  code_ready a = record {
+  labels_below : All (λ e. e.at < 2 ^ w) p.labels
+  labels_below k e within =
+      let at = assembled.within k e within in
+      let most = short in
+      omega (arith, at, most)
+
+  pub code_ready : IsCode w code
+  code_ready = record {
     made =
         subst (λ c. All (λ ms. All (IsMadeMove w) ms) c) (sym code_is)
-        (code_made w (code_of d p) (pow_pos w) loadable.symbols (labels_below a) (code_of d p).transfers loadable.made);
-    short = subst (λ n. n < 2 ^ w) (sym (ap length lines ∙ map_length (linked_line d p) p.lines)) loadable.short;
+        (code_made w (code_of d p) (pow_pos w) (subst (λ v. All (λ a. a < 2 ^ v) p.symbols) word loadable.symbols) labels_below (code_of d p).transfers made);
+    short = subst (λ n. n < 2 ^ w) (sym (ap length lines ∙ map_length (linked_line d p) p.lines)) short;
   }
 
   pub loaded : (m : Parts) → m.code.items ≡ code → m.running.held.registers ≡ replicate 64 0 → m.running.held.flags ≡ replicate 8 None
@@ -52,7 +63,7 @@ module _ (w : ℕ) (d : RawDescription) (p : Assembled) (sound : SaidIsSound) (c
       → m.running.stopped ≡ None → IsLoaded w (code_of d p) m
   loaded m e registers flags memory place waiting mark stopped = record {
     code = subst (λ c. IsCodeOf w (code_of d p) c) (sym e) loaded_code;
-    run = run_start w (code_of d p) m.running (word_is w d checked) registers flags memory loadable.within_memory place;
+    run = run_start w (code_of d p) m.running word registers flags memory loadable.within_memory place;
     waiting = waiting;
     mark = mark;
     stopped = stopped;

@@ -9,10 +9,10 @@ use Rattle.md_rows.specs.declared.instance.Bound.{Bound}
 use Rattle.md_rows.specs.declared.instance.Bound.TheVariants.{Reg, Num, Sym, Label}
 use Rattle.md_rows.specs.declared.instance.Instance.{Instance}
 use Rattle.md_rows.specs.Instances.{effects_with}
+use Rattle.md_check.specs.Checking.{IsChecked}
 use Rattle.md_instances.specs.Instances.{IsOfDescription}
-use Rattle.asm_program.specs.Programs.{Assembled}
+use Rattle.asm_program.specs.Programs.{Assembled, IsText}
 use Rattle.machine_run.specs.Machine.{Code, label_in}
-use Rattle.machine_effect.specs.Law.{IsMade}
 use Rattle.machine_step.specs.Steps.{IsCode, IsReady}
 use Rattle.machine_step.specs.Runs.{IsCodeOf, HasRun}
 use Rattle.rtl_machine.specs.declared.parts.Parts.{Parts}
@@ -49,14 +49,17 @@ linked_line d p i = moves_by (slice_get d.rows i.row) (map (link_in p.symbols p.
 abbrev pub memory_with_data : ℕ → ℕ → List ℕ → List ℕ
 memory_with_data base size bytes = (replicate base 0 ++ bytes) ++ replicate (size - (base + length bytes)) 0
 
--- a program of the described machine: its instructions are instances of rows, with transfers that a machine makes; what stands for a name
--- is a word, each place is one, and the data lie in memory
-pub record IsLoadable (w : ℕ) (d : RawDescription) (p : Assembled) : Type 0 where
+-- a program of the described machine: its instructions are instances of rows, each place is a word, what stands for an object's name is
+-- one too, and the data lie in memory
+pub record IsLoadable (d : RawDescription) (p : Assembled) : Type 0 where
   pub instances : All (IsOfDescription d) p.lines
-  pub made : All (IsMade w) (code_of d p).transfers
-  pub symbols : All (λ a. a < 2 ^ w) p.symbols
-  pub short : length p.lines < 2 ^ w
+  pub symbols : All (λ a. a < 2 ^ d.word) p.symbols
+  pub short : length p.lines < 2 ^ d.word
   pub within_memory : d.base + length p.bytes ≤ d.memory
+
+-- the program of a text is such, for an accepted description
+abbrev pub TextsAreLoadable : Type 0
+TextsAreLoadable = (w : ℕ) (d : RawDescription) (text : List ℕ) (p : Assembled) → IsChecked w d → IsText d text p → IsLoadable d p
 
 -- what holds of every machine
 pub record IsMachine (w : ℕ) (m : Parts) : Type 0 where

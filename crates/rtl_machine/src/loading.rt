@@ -44,7 +44,7 @@ pub fn code_in<W: Word>(
     m: &Checked<W>,
     p: &Program,
 ) -> Result<Vec<Effects>, NoMemory>
-    requires loadable { IsLoadable W.BITS m.now p.now }
+    requires loadable { IsLoadable m.now p.now }
     ensures code { IfOk result (λ code. code.items ≡ map (linked_line m.now p.now) p.now.lines) }
 {
     let d = m.raw();

@@ -1,9 +1,11 @@
 //! A machine with a program.
 
 ghost use Rattle.std.specs.Prelude.{IfOk, None, Some, ◌≡◌, ◌≢◌};
+ghost use Rattle.machine_run.specs.Machine.{Code};
 ghost use Rattle.machine_step.specs.Steps.{HasCauses};
 ghost use Rattle.machine_step.specs.Runs.{AllRan, StaysStopped, StopIsNoted};
 ghost use Rattle.rtl_machine.specs.Loading.{IsLoadable, IsLoaded, code_of};
+ghost use Rattle.rtl_machine.specs.Whole.{RunsFrom};
 
 use crate::loading::{code_in, memory_of};
 use crate::parts::Parts;
@@ -11,6 +13,7 @@ use asm_program::Program;
 use machine_devices::{Buffer, Reader};
 use machine_step::{Running, Stop, run, step};
 use machine_turn::Held;
+use md_bounds::said_is_bounded;
 use md_check::Checked;
 use md_said::said_is_sound;
 use rtl_tree::NoMemory;
@@ -43,10 +46,11 @@ impl<W: Word> Model for Machine<W> {
 impl<W: Word> Machine<W> {
     /// A machine before the first instruction of a program: registers are 0, flags lost, and memory holds the data and 0 elsewhere.
     pub fn load(alloc: Global, m: &Checked<W>, p: &Program) -> Result<Machine<W>, NoMemory>
-        requires loadable { IsLoadable W.BITS m.now p.now }
+        requires loadable { IsLoadable m.now p.now }
         ensures { IfOk result (λ machine. IsLoaded W.BITS (code_of m.now p.now) machine) }
     {
         said_is_sound();
+        said_is_bounded();
         let memory = memory_of(alloc, m.layout(), p)?;
         let code = code_in::<W>(alloc, m, p)?;
         let held = Held {
@@ -91,6 +95,7 @@ impl<W: Word> Machine<W> {
         ensures ran { self.old.running.stopped ≡ None → AllRan W.BITS self.old.code.items self.old.running self.new.running (S.left s.old) (S.left s.new) (K.written k.old) (K.written k.new) (S.ends s.old) (S.ends s.new) steps (Some result) }
         ensures stopped { self.old.running.stopped ≡ None → StopIsNoted self.new.running result }
         ensures causes { self.old.running.stopped ≡ None → HasCauses (S.faults s.old) (S.faults s.new) (K.faults k.old) (K.faults k.new) (Some result) }
+        ensures from_start { (p : Code) → IsLoaded W.BITS p self.old → RunsFrom p steps (S.left s.old) (K.written k.old) (K.written k.new) (S.faults s.old) (S.faults s.new) (K.faults k.old) (K.faults k.new) result }
     {
         run::<W, S, K>(&self.parts.code, &mut self.parts.running, steps, s, k)
     }

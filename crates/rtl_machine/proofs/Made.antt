@@ -1,7 +1,8 @@
 -- The transfers of a program's instructions are ones that a machine makes.
-use Rattle.std.proofs.Common.{◌≡◌, ℕ, zero, suc, ◌<◌, ◌^◌, Bool, true, false, ◌&&◌, List, [], ◌∷◌, map, slice_get, get_or, Option, Some, None, All, IsTrue, refl, sym, subst, ap, ◌∙◌}
+use Rattle.std.proofs.Common.{◌≡◌, ℕ, zero, suc, ◌<◌, ◌^◌, Bool, true, false, ◌&&◌, nat_lt, is_some, List, [], ◌∷◌, length, map, slice_get, get_or, Option, Some, None, All, IsTrue, refl, sym, subst, ap, ◌∙◌}
 use Rattle.std.proofs.lemmas.Bool.{ltb-true}
 use Rattle.std.proofs.lemmas.List.Elements.{All-map, All-head, All-tail}
+use Rattle.std.proofs.lemmas.Option.{slice_get_within}
 use Rattle.rtl_word.specs.Words.{IsWordSize}
 use Rattle.rtl_tree.specs.declared.cells.Cell.{Cell}
 use Rattle.rtl_tree.specs.declared.cells.Cell.TheVariants.{Hard, Temp, Flag, Pc, Input, Output, Halt, Hole as HoleCell}
@@ -66,7 +67,7 @@ AreNamed n (v ∷ vs) = IsNamed n v × AreNamed n vs
 
 module _ (w g : ℕ) (n : Names) where
   is_register : (h : Hole) (v : Bound) → IsTrue (fits w g h v) → IsNamed n v → is_register_hole (Some h) ≡ true → IsRegister (Some v)
-  is_register (RegHole class) (Reg (Hard k)) f m e = ltb-true k 64 (both_of (_) (is_in class k) f).0
+  is_register (RegHole class) (Reg (Hard k)) f m e = ltb-true k 64 (both_of (nat_lt k 64) (is_in class k) f).0
   is_register (RegHole class) (Reg (Temp t)) f m e = absurd m
   is_register (RegHole class) (Reg (Flag k)) f m e = absurd (clash f)
   is_register (RegHole class) (Reg Pc) f m e = absurd (clash f)
@@ -82,7 +83,7 @@ module _ (w g : ℕ) (n : Names) where
   is_register LabelHole v f m e = absurd (clash e)
 
   is_word : (h : Hole) (v : Bound) → IsTrue (fits w g h v) → is_number_hole (Some h) ≡ true → IsWord w (Some v)
-  is_word (NumHole low high inverted) (Num v) f e = ltb-true v (2 ^ w) (both_of (_) (_) f).0
+  is_word (NumHole low high inverted) (Num v) f e = ltb-true v (2 ^ w) (both_of (nat_lt v (2 ^ w)) (is_some (printed w low high inverted v)) f).0
   is_word (NumHole low high inverted) (Reg c) f e = absurd (clash f)
   is_word (NumHole low high inverted) (Sym s) f e = absurd (clash f)
   is_word (NumHole low high inverted) (Label l) f e = absurd (clash f)
@@ -278,6 +279,9 @@ checked_machine w d sound bounded c =
       rows = row_at c.said.word c.said.rows
           (λ i r e. let x = s.rows i r e in record { effects = x.effects; numbers = x.numbers; bounded = b.rows i r e });
     })
+
+pub row_within : (d : RawDescription) (i : Instance) → IsOfDescription d i → i.row < length d.rows
+row_within d i o = slice_get_within d.rows i.row o.0 o.1.has_row
 
 named_all : (n : Names) (b : List Bound) → All (IsNamed n) b → AreNamed n b
 named_all n [] a = tt

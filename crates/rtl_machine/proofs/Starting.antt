@@ -1,17 +1,19 @@
 -- A machine before its first instruction stands where the definition's run starts.
-use Rattle.std.proofs.Common.{◌≡◌, ℕ, zero, suc, ◌+◌, ◌-◌, ◌<◌, ◌≤◌, Bool, true, false, cond, List, [], ◌∷◌, ◌++◌, length, slice_get, slice_index, replicate, get_or, Option, Some, None, refl, sym, ap, ◌∙◌, subst, arith, append-nil}
+use Rattle.std.proofs.Common.{◌≡◌, ℕ, zero, suc, ◌+◌, ◌-◌, ◌<◌, ◌≤◌, ◌^◌, All, Bool, true, false, cond, List, [], ◌∷◌, ◌++◌, length, slice_get, slice_index, replicate, get_or, Option, Some, None, refl, sym, ap, ◌∙◌, subst, arith, append-nil}
 use Rattle.std.proofs.lemmas.Bool.Decides.{nat_tests}
+use Rattle.std.proofs.lemmas.Nat.{pow_pos}
+use Rattle.std.proofs.lemmas.List.Elements.{All-replicate}
 use Rattle.std.specs.Prelude.{nat_le}
 use Rattle.behaviour.specs.Steps.{run_by}
 use Rattle.rtl_tree.specs.declared.cells.Cell.{Cell}
 use Rattle.rtl_tree.specs.declared.cells.Cell.TheVariants.{Hard, Temp, Flag, Pc, Input, Output, Halt, Hole}
 use Rattle.rtl_value.specs.declared.state.FlagPair.{FlagPair}
 use Rattle.rtl_value.specs.declared.state.State.{State}
-use Rattle.rtl_value.specs.Values.{cell_of}
+use Rattle.rtl_value.specs.Values.{cell_of, AreWords, IsPairOfWords}
 use Rattle.rtl_effect.specs.Views.{Mark, Gone, mark_of}
 use Rattle.machine_run.specs.Machine.{Code, MachineState, start, start_view, start_byte, turn, view_at}
 use Rattle.machine_turn.specs.declared.held.Held.{Held}
-use Rattle.machine_turn.specs.Held.{IsCellRead, state_of}
+use Rattle.machine_turn.specs.Held.{IsCellRead, IsHeld, state_of}
 use Rattle.machine_effect.specs.Turns.{at_place}
 use Rattle.machine_effect.specs.Standing.{Shows, Stands}
 use Rattle.machine_step.specs.declared.running.Running.{Running}
@@ -120,3 +122,13 @@ pub run_start : (w : ℕ) (p : Code) (m : Running) → p.word ≡ w → m.held.r
     → m.held.memory.items ≡ memory_with_data p.base p.size p.bytes → p.base + length p.bytes ≤ p.size → m.place ≡ 0 → HasRun w p m [] [] 0
 run_start w p m word registers flags memory fits place =
     subst (λ x. HasRun x p m [] [] 0) word (λ more f. comes_start p m.held registers flags memory fits m refl place more)
+
+-- what is held before the first instruction are words
+pub held_start : (w : ℕ) (h : Held) → h.registers ≡ replicate 64 0 → h.flags ≡ replicate 8 None → h.next ≡ 0 → IsHeld w h
+held_start w h registers flags next = record {
+  many = ap length registers;
+  eight = ap length flags;
+  words = subst (AreWords w) (sym registers) (λ k l. subst (λ n. n < 2 ^ w) (sym (zeros 64 k)) (pow_pos w));
+  pairs = subst (All (λ q. IsPairOfWords w q)) (sym flags) (All-replicate (λ q. IsPairOfWords w q) 8 None tt);
+  next = subst (λ n. n < 2 ^ w) (sym next) (pow_pos w);
+}

@@ -1,5 +1,5 @@
 -- The cells that the rows of a text name: those that are spelled, and holes.
-use Rattle.std.proofs.Common.{◌≡◌, ℕ, zero, suc, ◌+◌, Bool, true, false, cond, List, [], ◌∷◌, ◌++◌, length, map, Option, Some, None, slice_get, unwrap_or, option_map, option_and_then, refl, sym, subst}
+use Rattle.std.proofs.Common.{◌≡◌, ℕ, zero, suc, ◌+◌, Bool, true, false, cond, List, [], ◌∷◌, length, map, Option, Some, None, slice_get, unwrap_or, option_map, option_and_then, subst}
 use Rattle.std.specs.List.{cons_option}
 use Rattle.std.specs.Str.{bytes_eq}
 use Rattle.rtl_tree.specs.declared.cells.Cell.{Cell}
@@ -11,11 +11,11 @@ use Rattle.rtl_spelling.specs.Spelling.{Placed, Said, IsSpelledCell, Spells, num
 use Rattle.md_rows.specs.declared.row.Hole.{Hole as RowHole}
 use Rattle.md_rows.specs.declared.row.Hole.TheVariants.{Reg, Num, Sym, Label}
 use Rattle.md_text.specs.Lines.{Line}
-use Rattle.md_text.specs.Pieces.{Kind, Named, Slot, Piece, Literal, Hole, slots, has_name}
+use Rattle.md_text.specs.Pieces.{Kind, Named, Slot, Piece, slots, has_name}
 use Rattle.md_text.specs.Forms.{OpenTransfer, Form, ModeLine, RowLine, HasForm, open_from, context}
 use Rattle.md_text.specs.Declarations.{Declaration, HaveForms, Alternative, alternative_of, alternatives_in, mode_names}
-use Rattle.md_text.specs.Expansion.{taken_by, leaf_of, with_leaves, goal_with, move_to, move_with, all_there, leaves_by, holes_from, Filling, filling_of, itself, alternatives_of, fillings, choices, holes_in, meant, Expanded, transfer_with, expanded, expansions_of, expansions}
-use Rattle.md_said.proofs.Lists.{Each, each_by, each_map, each_flat_map, each_filter}
+use Rattle.md_text.specs.Expansion.{taken_by, leaf_of, with_leaves, goal_with, move_to, move_with, all_there, leaves_by, holes_from, Filling, filling_of, itself, alternatives_of, fillings, choices, holes_in, meant, Expanded, expanded, expansions_of, expansions}
+use Rattle.md_said.proofs.Lists.{Each, each_map, each_flat_map, each_filter}
 use Rattle.md_said.proofs.Forms.{no_some, some_same}
 use Rattle.md_bounds.specs.Bounds.{IsBoundedCell, IsBoundedTree, IsBoundedGoal}
 

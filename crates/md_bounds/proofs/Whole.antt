@@ -1,5 +1,6 @@
 -- What an accepted text says is bounded.
-use Rattle.std.proofs.Common.{◌≡◌, ℕ, ◌+◌, ◌<◌, ◌≤◌, ◌^◌, ℤ, pos, negsuc, Bool, true, false, not, cond, ◌&&◌, List, [], ◌∷◌, ◌++◌, map, filter_map, Option, Some, None, slice_get, unwrap_or, All, Contains, inl, inr, refl, sym, subst, ap, arith, ◌∙◌}
+use Rattle.std.proofs.Common.{◌≡◌, ℕ, ◌<◌, ◌≤◌, ◌^◌, ℤ, pos, negsuc, Bool, true, false, not, ◌&&◌, List, [], ◌∷◌, ◌++◌, filter_map, Option, Some, None, unwrap_or, All, Contains, inl, inr, refl, sym, subst, arith, ◌∙◌}
+use Rattle.std.specs.Prelude.{int_le}
 use Rattle.std.specs.List.{list_all, cons_option}
 use Rattle.std.proofs.lemmas.Bool.Decides.{nat_tests}
 use Rattle.std.proofs.lemmas.List.Elements.{All-head, All-tail}
@@ -13,8 +14,7 @@ use Rattle.md_text.specs.Declarations.{Declaration, Declared, Declares, number_o
 use Rattle.md_text.specs.Expansion.{Expanded, expansions}
 use Rattle.md_text.specs.Heading.{is_whole, is_from_to, most_memory, is_out_of_range}
 use Rattle.md_text.specs.Rules.{HasGoodTransfer}
-use Rattle.md_text.specs.Accepted.{OutOfRange, BadTransfer, TooMany, HasBrokenRow, IsAccepted, most_rows, counted_rows, row_of, description_of, Says}
-use Rattle.md_said.specs.Sound.{SaidIsSound}
+use Rattle.md_text.specs.Accepted.{OutOfRange, BadTransfer, TooMany, HasBrokenRow, IsAccepted, most_rows, counted_rows, row_of, description_of}
 use Rattle.md_said.proofs.Lists.{Each, each_get, all_of_each}
 use Rattle.md_said.proofs.Unbroken.{Unbroken, unbroken_from}
 use Rattle.md_said.proofs.Forms.{both_of, some_same}
@@ -24,8 +24,17 @@ use Rattle.md_bounds.proofs.Cells.{IsOverCells, AreOverCells, rows_over}
 
 -- the memory
 
+not_false : (b : Bool) → not b ≡ false → b ≡ true
+not_false true h = refl
+not_false false h = let q : true ≡ false = h in cc
+
+at_most : (a b : ℕ) → int_le (pos a) (pos b) ≡ true → a ≤ b
+at_most a b e = grind (arith, nat_tests)
+
 most_of_memory : (w : ℕ) (z : ℤ) → not (is_whole w z && is_from_to 4096 (most_memory w) z) ≡ false → number_of z ≤ most_memory w
-most_of_memory w (pos n) e = grind (arith, nat_tests)
+most_of_memory w (pos n) e =
+    let k = both_of (is_whole w (pos n)) (is_from_to 4096 (most_memory w) (pos n)) (not_false (is_whole w (pos n) && is_from_to 4096 (most_memory w) (pos n)) e) in
+    at_most n (most_memory w) (both_of (int_le (pos 4096) (pos n)) (int_le (pos n) (pos (most_memory w))) k.1).1
 most_of_memory w (negsuc n) e = absurd (cc)
 
 memory_cons : (w : ℕ) (before : List Declaration) (form : Form) (zs : List ℤ) → is_out_of_range w before form ≡ false → first_number zs ≤ most_memory w
@@ -39,8 +48,8 @@ memory_from w before (d ∷ ds) u =
     memory_cons w before d.form (filter_map (λ x. memory_number x.form) ds) u.0 (memory_from w (before ++ d ∷ []) ds u.1)
 
 most_is_word : (w : ℕ) → IsWordSize w → most_memory w < 2 ^ w
-most_is_word w (inl e) = subst (λ (v : ℕ). most_memory v < 2 ^ v) (sym e) (omega arith)
-most_is_word w (inr e) = subst (λ (v : ℕ). most_memory v < 2 ^ v) (sym e) (omega arith)
+most_is_word w (inl e) = subst (λ (v : ℕ). most_memory v < 2 ^ v) (sym e) (let h : 65534 < 65536 = omega arith in h)
+most_is_word w (inr e) = subst (λ (v : ℕ). most_memory v < 2 ^ v) (sym e) (let h : 16777216 < 4294967296 = omega arith in h)
 
 -- comparisons and the input
 

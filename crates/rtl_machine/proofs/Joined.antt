@@ -45,7 +45,7 @@ written_all old new waited rest out e f h =
 written_part : (old new : Option (List ℕ)) (waited rest out : List ℕ) (whole : List ℕ) → waited ≡ [] → IsPrefix out whole → Prints old waited new rest out → AppendsPart old new whole
 written_part old new waited rest out whole e f h =
     let split : whole ≡ h.0 ++ (rest ++ f.0) =
-        f.1 ∙ ap (λ x. x ++ f.0) (sym (ap (λ x. x ++ out) e) ∙ h.2) ∙ append_assoc h.0 rest f.0 in
+    f.1 ∙ ap (λ x. x ++ f.0) (sym (ap (λ x. x ++ out) e) ∙ h.2) ∙ append_assoc h.0 rest f.0 in
     (length h.0, subst (Appends old new) (sym (ap (take (length h.0)) split ∙ take-append_seam h.0 (rest ++ f.0))) h.1)
 
 -- the run

@@ -74,8 +74,8 @@ module _ (d : RawDescription) (all : List Said) where
   within_limit (s ∷ ss) p q l w = within_limit ss (after (word_bytes d) p s) q w.0.within.instructions w.1
 
 limit_is_word : (w : ℕ) → IsWordSize w → instruction_limit w < 2 ^ w
-limit_is_word w (inl e) = subst (λ (v : ℕ). instruction_limit v < 2 ^ v) (sym e) (omega arith)
-limit_is_word w (inr e) = subst (λ (v : ℕ). instruction_limit v < 2 ^ v) (sym e) (omega arith)
+limit_is_word w (inl e) = subst (λ (v : ℕ). instruction_limit v < 2 ^ v) (sym e) (let h : 65535 < 65536 = omega arith in h)
+limit_is_word w (inr e) = subst (λ (v : ℕ). instruction_limit v < 2 ^ v) (sym e) (let h : 1000000 < 4294967296 = omega arith in h)
 
 -- the data
 
@@ -130,8 +130,8 @@ module _ (d : RawDescription) (size : IsWordSize d.word) (all : List Said) where
   data_fits (s ∷ ss) p q bytes e r l w =
       let more : List ℕ = bytes_after (word_bytes d) bytes s in
       let reach : reach_in p.part (word_bytes d) p.reach s ≡ length more =
-          ap (λ (x : Part). reach_in x (word_bytes d) p.reach s) e ∙ ap (λ (k : ℕ). reach_after (word_bytes d) k s) r
-          ∙ sym (reaches (word_bytes d) bytes s (word_positive d size)) in
+      ap (λ (x : Part). reach_in x (word_bytes d) p.reach s) e ∙ ap (λ (k : ℕ). reach_after (word_bytes d) k s) r
+      ∙ sym (reaches (word_bytes d) bytes s (word_positive d size)) in
       let fits : d.base + length more ≤ room d = subst (λ (k : ℕ). d.base + k ≤ room d) reach w.0.within.statics in
       let rest = data_fits ss (after (word_bytes d) p s) q more (ap (λ (x : Part). part_after x s) e) reach fits w.1 in
       record {

@@ -1,5 +1,6 @@
 -- A machine that was loaded has the program's code, and stands at its start.
-use Rattle.std.proofs.Common.{◌≡◌, ℕ, suc, ◌+◌, ◌<◌, ◌≤◌, ◌^◌, false, List, [], ◌∷◌, map, length, replicate, slice_get, None, Some, All, refl, sym, ap, ◌∙◌, subst, arith}
+use Rattle.std.proofs.Common.{◌≡◌, ℕ, suc, ◌+◌, ◌<◌, ◌≤◌, ◌^◌, false, List, [], ◌∷◌, map, length, replicate, slice_get, None, Some, Result, Ok, Err, All, refl, sym, ap, ◌∙◌, subst, arith}
+use Rattle.std.specs.Prelude.{IfOk}
 use Rattle.std.proofs.lemmas.Nat.{pow_pos}
 use Rattle.rtl_tree.specs.Moves.{Move}
 use Rattle.md_rows.specs.declared.description.RawDescription.{RawDescription}
@@ -10,13 +11,14 @@ use Rattle.asm_program.specs.Programs.{Assembled, IsAssembled}
 use Rattle.machine_run.specs.Machine.{Code}
 use Rattle.machine_effect.specs.Law.{IsMade}
 use Rattle.machine_turn.specs.Held.{IsMadeMove}
-use Rattle.machine_step.specs.Steps.{IsCode}
+use Rattle.machine_step.specs.declared.running.Running.{Running}
+use Rattle.machine_step.specs.Steps.{IsCode, IsReady}
 use Rattle.machine_step.specs.Runs.{IsCodeOf, linked_moves}
 use Rattle.rtl_machine.specs.declared.parts.Parts.{Parts}
 use Rattle.rtl_machine.specs.Loading.{code_of, linked_line, memory_with_data, IsLoadable, IsLoaded}
 use Rattle.rtl_machine.proofs.Filled.{lines_linked, code_made}
 use Rattle.rtl_machine.proofs.Made.{checked_machine, program_made}
-use Rattle.rtl_machine.proofs.Starting.{run_start}
+use Rattle.rtl_machine.proofs.Starting.{run_start, held_start}
 
 word_is : (w : ℕ) (d : RawDescription) → IsChecked w d → d.word ≡ w
 word_is w d c = ap (λ (e : RawDescription). e.word) c.normal ∙ c.word
@@ -58,13 +60,25 @@ module _ (w : ℕ) (d : RawDescription) (p : Assembled) (sound : SaidIsSound) (b
     short = subst (λ n. n < 2 ^ w) (sym (ap length lines ∙ map_length (linked_line d p) p.lines)) short;
   }
 
-  pub loaded : (m : Parts) → m.code.items ≡ code → m.running.held.registers ≡ replicate 64 0 → m.running.held.flags ≡ replicate 8 None
-      → m.running.held.memory.items ≡ memory_with_data d.base d.memory p.bytes → m.running.place ≡ 0 → m.running.waiting ≡ [] → m.running.reader.ended ≡ false
-      → m.running.stopped ≡ None → IsLoaded w (code_of d p) m
-  loaded m e registers flags memory place waiting mark stopped = record {
-    code = subst (λ c. IsCodeOf w (code_of d p) c) (sym e) loaded_code;
-    run = run_start w (code_of d p) m.running word registers flags memory loadable.within_memory place;
-    waiting = waiting;
-    mark = mark;
-    stopped = stopped;
-  }
+pub loaded : (w : ℕ) (d : RawDescription) (p : Assembled) (m : Parts) → IsLoadable d p → IsCodeOf w (code_of d p) m.code.items
+    → m.running.held.registers ≡ replicate 64 0 → m.running.held.flags ≡ replicate 8 None
+    → m.running.held.memory.items ≡ memory_with_data d.base d.memory p.bytes → m.running.place ≡ 0 → m.running.waiting ≡ [] → m.running.reader.ended ≡ false
+    → m.running.stopped ≡ None → IsLoaded w (code_of d p) m
+loaded w d p m loadable is registers flags memory place waiting mark stopped = record {
+  code = is;
+  run = run_start w (code_of d p) m.running is.word registers flags memory loadable.within_memory place;
+  waiting = waiting;
+  mark = mark;
+  stopped = stopped;
+}
+
+-- before the first instruction nothing waits
+pub ready : (w : ℕ) (m : Running) → m.held.registers ≡ replicate 64 0 → m.held.flags ≡ replicate 8 None → m.held.next ≡ 0 → m.waiting ≡ [] → IsReady w m
+ready w m registers flags next waiting = record {
+  held = held_start w m.held registers flags next;
+  room = subst (λ xs. length xs < 4096) (sym waiting) (omega arith);
+}
+
+pub carried : {V E : Type 0} (P Q : V → Type 0) → ((x : V) → P x → Q x) → (r : Result V E) → IfOk r P → IfOk r Q
+carried P Q f (Ok x) h = f x h
+carried P Q f (Err e) h = tt

@@ -56,9 +56,9 @@ zeros_behind (x ∷ xs) n (suc a) = zeros_behind xs n a
 data_at : (p : Code) (a n : ℕ) → slice_index ((replicate p.base 0 ++ p.bytes) ++ replicate n 0) a ≡ start_byte p a
 data_at p a n = zeros_behind (replicate p.base 0 ++ p.bytes) n a ∙ front p.base a p.bytes (nat_le p.base a) refl
 
-zeros_length : (n : ℕ) → length (replicate n 0) ≡ n
-zeros_length zero = refl
-zeros_length (suc n) = ap (λ k. suc k) (zeros_length n)
+same_length : (n x : ℕ) → length (replicate n x) ≡ n
+same_length zero x = refl
+same_length (suc n) x = ap (λ k. suc k) (same_length n x)
 
 append_length : (xs ys : List ℕ) → length (xs ++ ys) ≡ length xs + length ys
 append_length [] ys = let same : length ys ≡ 0 + length ys = omega arith in same
@@ -71,8 +71,8 @@ memory_length base size bytes l =
     let n = size - (base + length bytes) in
     let first = append_length (replicate base 0 ++ bytes) (replicate (size - (base + length bytes)) 0) in
     let second = append_length (replicate base 0) bytes in
-    let a = zeros_length base in
-    let b = zeros_length (size - (base + length bytes)) in
+    let a = same_length base 0 in
+    let b = same_length (size - (base + length bytes)) 0 in
     omega (arith, first, second, a, b, l)
 
 module _ (p : Code) (h : Held) (registers : h.registers ≡ replicate 64 0) (flags : h.flags ≡ replicate 8 None)

@@ -1,13 +1,19 @@
 //! Memory and code of a program.
 
-ghost use Rattle.std.specs.Prelude.{IfOk, length, map, ◌+◌, ◌<◌, ◌≡◌, ◌≤◌};
-ghost use Rattle.rtl_machine.specs.Loading.{IsLoadable, linked_line, memory_with_data};
+ghost use Rattle.std.specs.Prelude.{All, IfOk, length, map, ◌+◌, ◌<◌, ◌≡◌, ◌≤◌};
+ghost use Rattle.asm_program.specs.Programs.{IsAssembled};
+ghost use Rattle.md_instances.specs.Instances.{IsOfDescription};
+ghost use Rattle.machine_step.specs.Runs.{IsCodeOf};
+ghost use Rattle.machine_step.specs.Steps.{IsCode};
+ghost use Rattle.rtl_machine.specs.Loading.{IsLoadable, code_of, linked_line, memory_with_data};
 
 use crate::linking::linked;
 use asm_program::Program;
+use md_bounds::said_is_bounded;
 use md_check::{Checked, Layout};
 use md_instances::fill_row;
 use md_rows::{Instance, RawDescription};
+use md_said::said_is_sound;
 use rtl_tree::{Effects, NoMemory};
 use rtl_word::Word;
 use std::alloc::Global;
@@ -38,6 +44,23 @@ fn line_of(
     fill_row(alloc, &rows[usize::from(line.row)], &binding)
 }
 
+// The transfers of the lines alone, in order.
+fn linked_lines(
+    alloc: Global,
+    d: &RawDescription,
+    p: &Program,
+) -> Result<Vec<Effects>, NoMemory>
+    requires instances { All (IsOfDescription d.now) p.now.lines }
+    ensures code { IfOk result (λ code. code.items ≡ map (linked_line d.now p.now) p.now.lines) }
+    ensures assembled { IsAssembled p.now }
+{
+    let mut code = Vec::new(alloc);
+    for line in &p.lines {
+        code.push(line_of(alloc, d, line, p)?)?;
+    }
+    Ok(code)
+}
+
 /// The transfers of a program's lines, with numbers in place of names.
 pub fn code_in<W: Word>(
     alloc: Global,
@@ -45,12 +68,11 @@ pub fn code_in<W: Word>(
     p: &Program,
 ) -> Result<Vec<Effects>, NoMemory>
     requires loadable { IsLoadable m.now p.now }
-    ensures code { IfOk result (λ code. code.items ≡ map (linked_line m.now p.now) p.now.lines) }
+    ensures code { IfOk result (λ code. IsCodeOf W.BITS (code_of m.now p.now) code.items) }
+    ensures ready { IfOk result (λ code. IsCode W.BITS code.items) }
 {
+    said_is_sound();
+    said_is_bounded();
     let d = m.raw();
-    let mut code = Vec::new(alloc);
-    for line in &p.lines {
-        code.push(line_of(alloc, d, line, p)?)?;
-    }
-    Ok(code)
+    linked_lines(alloc, d, p)
 }

@@ -13,9 +13,7 @@ use asm_program::Program;
 use machine_devices::{Buffer, Reader};
 use machine_step::{Running, Stop, run, step};
 use machine_turn::Held;
-use md_bounds::said_is_bounded;
 use md_check::Checked;
-use md_said::said_is_sound;
 use rtl_tree::NoMemory;
 use rtl_word::Word;
 use std::alloc::Global;
@@ -49,8 +47,6 @@ impl<W: Word> Machine<W> {
         requires loadable { IsLoadable m.now p.now }
         ensures { IfOk result (λ machine. IsLoaded W.BITS (code_of m.now p.now) machine) }
     {
-        said_is_sound();
-        said_is_bounded();
         let memory = memory_of(alloc, m.layout(), p)?;
         let code = code_in::<W>(alloc, m, p)?;
         let held = Held {

@@ -1,28 +1,22 @@
 -- A row with numbers in place of names in its holes makes the linked transfer.
-use Rattle.std.proofs.Common.{◌≡◌, ℕ, zero, suc, ◌<◌, ◌≤◌, ◌^◌, List, [], ◌∷◌, map, length, slice_get, slice_index, Option, Some, None, All, refl, sym, ap, ◌∙◌, subst, arith}
-use Rattle.std.specs.Prelude.{option_map, false, IsSome}
+use Rattle.std.proofs.Common.{◌≡◌, ℕ, zero, suc, ◌<◌, ◌^◌, List, [], ◌∷◌, map, slice_get, slice_index, Option, Some, None, All, refl, sym, ap, ◌∙◌}
+use Rattle.std.specs.Prelude.{option_map}
 use Rattle.std.proofs.lemmas.List.Elements.{All-nil, All-head, All-tail, All-cons}
 use Rattle.rtl_tree.specs.declared.cells.Cell.{Cell}
 use Rattle.rtl_tree.specs.declared.cells.Cell.TheVariants.{Hard, Temp, Flag, Pc, Input, Output, Halt, Hole as HoleCell}
-use Rattle.rtl_tree.specs.declared.cells.Lab.{Lab}
-use Rattle.rtl_tree.specs.declared.expressions.BinOp.{BinOp}
-use Rattle.rtl_tree.specs.declared.expressions.BinOp.TheVariants.{Add, Pair}
+use Rattle.rtl_tree.specs.declared.expressions.BinOp.TheVariants.{Pair}
 use Rattle.rtl_tree.specs.Trees.{Tree, Number, Symbol, CodeLabel, Read, Load, Unary, Binary, NoPair, AnyNumber, AnyName}
 use Rattle.rtl_tree.specs.Moves.{Goal, ToCell, ToMemory, Move}
-use Rattle.rtl_value.specs.declared.state.LabelAt.{LabelAt}
-use Rattle.rtl_value.specs.Values.{place_of_label, number_or_zero}
 use Rattle.rtl_value.proofs.Places.{label_below}
-use Rattle.rtl_effect.specs.Effects.{is_input}
-use Rattle.md_rows.specs.declared.description.RawDescription.{RawDescription}
 use Rattle.md_rows.specs.declared.row.Row.{Row}
 use Rattle.md_rows.specs.declared.row.Hole.{Hole}
 use Rattle.md_rows.specs.declared.instance.Bound.{Bound}
 use Rattle.md_rows.specs.declared.instance.Bound.TheVariants.{Reg, Num, Sym, Label}
 use Rattle.md_rows.specs.declared.instance.Instance.{Instance}
-use Rattle.md_rows.specs.Instances.{leaf_of, held_by, filled, register_by, filled_cell, filled_goal, filled_move, effects_with}
+use Rattle.md_rows.specs.Instances.{leaf_of, held_by, filled, register_by, filled_cell, filled_move}
 use Rattle.md_covers.specs.Covers.{IsRowTree, IsRowMove}
-use Rattle.machine_run.specs.Machine.{Code, label_in}
-use Rattle.machine_turn.specs.Held.{IsTree, IsForFlag, IsForRegister, IsSideOf, IsMadeMove}
+use Rattle.machine_run.specs.Machine.{Code}
+use Rattle.machine_turn.specs.Held.{IsTree, IsForFlag, IsSideOf, IsMadeMove}
 use Rattle.machine_effect.specs.Law.{IsMade}
 use Rattle.machine_step.specs.Runs.{linked, linked_goal, linked_move, linked_moves}
 use Rattle.machine_step.proofs.Linking.{input_linked}

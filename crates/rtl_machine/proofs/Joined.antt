@@ -1,9 +1,9 @@
 -- A call of `run` from a program's start comes to what the definition's run comes to.
 use Rattle.std.proofs.Common.{◌≡◌, ℕ, ◌+◌, ◌≤◌, Bool, true, false, List, [], ◌++◌, take, length, Option, Some, None, refl, sym, ap, ◌∙◌, subst, append-nil, append_assoc, arith}
 use Rattle.std.proofs.Math.Seq.{take-append_seam}
-use Rattle.std.specs.Io.KnownBytes.{Appends, Consumes, IsAtEnd}
+use Rattle.std.specs.Io.KnownBytes.{Appends, Consumes}
 use Rattle.vp_io.specs.Contents.{AppendsPart}
-use Rattle.behaviour.specs.Behaviour.{Behaviour, Running as GoingOn, Ended as EndedBy, Failed, Trapped as TrappedBy, output, IsPrefix, IsExtendedBy}
+use Rattle.behaviour.specs.Behaviour.{Behaviour, Running as GoingOn, Ended as EndedBy, Failed, output, IsPrefix, IsExtendedBy}
 use Rattle.machine_run.specs.Machine.{Code, machine_run}
 use Rattle.machine_run.proofs.Runs.{is_run}
 use Rattle.machine_devices.specs.Devices.{Prints}
@@ -11,7 +11,7 @@ use Rattle.machine_step.specs.declared.running.Running.{Running}
 use Rattle.machine_step.specs.declared.running.Stop.{Stop}
 use Rattle.machine_step.specs.declared.running.Stop.TheVariants.{Ended, Trapped, Spent, ReadFault, WriteFault}
 use Rattle.machine_step.specs.Steps.{HasCauses, MarkMoves}
-use Rattle.machine_step.specs.Runs.{MayFollow, RunIs, MadeAll, Ran, AllRan}
+use Rattle.machine_step.specs.Runs.{MayFollow, RunIs, MadeAll, AllRan}
 use Rattle.rtl_machine.specs.declared.parts.Parts.{Parts}
 use Rattle.rtl_machine.specs.Loading.{IsLoaded}
 use Rattle.rtl_machine.specs.Whole.{RunsTo, IsAllLeft, RunsFrom}

@@ -1,5 +1,5 @@
 -- A machine that was loaded has the program's code, and stands at its start.
-use Rattle.std.proofs.Common.{◌≡◌, ℕ, suc, ◌+◌, ◌<◌, ◌≤◌, ◌^◌, false, List, [], ◌∷◌, map, length, replicate, slice_get, None, Some, Result, Ok, Err, All, refl, sym, ap, ◌∙◌, subst, arith}
+use Rattle.std.proofs.Common.{◌≡◌, ℕ, suc, ◌<◌, ◌^◌, false, List, [], ◌∷◌, map, length, replicate, None, Result, Ok, Err, All, refl, sym, ap, ◌∙◌, subst, arith}
 use Rattle.std.specs.Prelude.{IfOk}
 use Rattle.std.proofs.lemmas.Nat.{pow_pos}
 use Rattle.rtl_tree.specs.Moves.{Move}
@@ -8,7 +8,6 @@ use Rattle.md_said.specs.Sound.{SaidIsSound}
 use Rattle.md_bounds.specs.Bounds.{SaidIsBounded}
 use Rattle.md_check.specs.Checking.{IsChecked}
 use Rattle.asm_program.specs.Programs.{Assembled, IsAssembled}
-use Rattle.machine_run.specs.Machine.{Code}
 use Rattle.machine_effect.specs.Law.{IsMade}
 use Rattle.machine_turn.specs.Held.{IsMadeMove}
 use Rattle.machine_step.specs.declared.running.Running.{Running}

@@ -1,5 +1,5 @@
 -- The transfers of a program's instructions are ones that a machine makes.
-use Rattle.std.proofs.Common.{◌≡◌, ℕ, zero, suc, ◌<◌, ◌^◌, Bool, true, false, ◌&&◌, nat_lt, is_some, List, [], ◌∷◌, length, map, slice_get, get_or, Option, Some, None, All, IsTrue, refl, sym, subst, ap, ◌∙◌}
+use Rattle.std.proofs.Common.{◌≡◌, ℕ, zero, suc, ◌<◌, ◌^◌, Bool, true, false, ◌&&◌, nat_lt, is_some, List, [], ◌∷◌, length, map, slice_get, get_or, Option, Some, None, All, IsTrue, refl, sym, subst}
 use Rattle.std.proofs.lemmas.Bool.{ltb-true}
 use Rattle.std.proofs.lemmas.List.Elements.{All-map, All-head, All-tail}
 use Rattle.std.proofs.lemmas.Option.{slice_get_within}
@@ -27,7 +27,7 @@ use Rattle.md_match.specs.Searches.{goal_tree}
 use Rattle.md_covers.specs.Covers.{is_register_hole, is_number_hole, is_name_hole, IsRowTree, IsRowMove}
 use Rattle.md_said.specs.Sound.{SaidIsSound}
 use Rattle.md_bounds.specs.Bounds.{IsBoundedTree, IsBoundedGoal, IsBoundedMove, SaidIsBounded}
-use Rattle.md_check.specs.Accepted.{normalised_row, normalised}
+use Rattle.md_check.specs.Accepted.{normalised_row}
 use Rattle.md_check.specs.Checking.{IsChecked}
 use Rattle.md_instances.specs.Instances.{IsOfDescription}
 use Rattle.asm_line.specs.Line.{IsNamed}

@@ -1,5 +1,5 @@
 -- A machine before its first instruction stands where the definition's run starts.
-use Rattle.std.proofs.Common.{◌≡◌, ℕ, zero, suc, ◌+◌, ◌-◌, ◌<◌, ◌≤◌, ◌^◌, All, Bool, true, false, cond, List, [], ◌∷◌, ◌++◌, length, slice_get, slice_index, replicate, get_or, Option, Some, None, refl, sym, ap, ◌∙◌, subst, arith, append-nil}
+use Rattle.std.proofs.Common.{◌≡◌, ℕ, zero, suc, ◌+◌, ◌-◌, ◌<◌, ◌≤◌, ◌^◌, All, Bool, true, false, cond, List, [], ◌∷◌, ◌++◌, length, slice_get, slice_index, replicate, Some, None, refl, sym, ap, ◌∙◌, subst, arith}
 use Rattle.std.proofs.lemmas.Bool.Decides.{nat_tests}
 use Rattle.std.proofs.lemmas.Nat.{pow_pos}
 use Rattle.std.proofs.lemmas.List.Elements.{All-replicate}
@@ -7,17 +7,16 @@ use Rattle.std.specs.Prelude.{nat_le}
 use Rattle.behaviour.specs.Steps.{run_by}
 use Rattle.rtl_tree.specs.declared.cells.Cell.{Cell}
 use Rattle.rtl_tree.specs.declared.cells.Cell.TheVariants.{Hard, Temp, Flag, Pc, Input, Output, Halt, Hole}
-use Rattle.rtl_value.specs.declared.state.FlagPair.{FlagPair}
 use Rattle.rtl_value.specs.declared.state.State.{State}
 use Rattle.rtl_value.specs.Values.{cell_of, AreWords, IsPairOfWords}
-use Rattle.rtl_effect.specs.Views.{Mark, Gone, mark_of}
-use Rattle.machine_run.specs.Machine.{Code, MachineState, start, start_view, start_byte, turn, view_at}
+use Rattle.rtl_effect.specs.Views.{Gone, mark_of}
+use Rattle.machine_run.specs.Machine.{Code, start, start_view, start_byte, turn, view_at}
 use Rattle.machine_turn.specs.declared.held.Held.{Held}
 use Rattle.machine_turn.specs.Held.{IsCellRead, IsHeld, state_of}
 use Rattle.machine_effect.specs.Turns.{at_place}
 use Rattle.machine_effect.specs.Standing.{Shows, Stands}
 use Rattle.machine_step.specs.declared.running.Running.{Running}
-use Rattle.machine_step.specs.Runs.{named, Comes, HasRun, MayFollow}
+use Rattle.machine_step.specs.Runs.{named, Comes, HasRun}
 use Rattle.rtl_machine.specs.Loading.{memory_with_data}
 
 zeros : (n k : ℕ) → slice_index (replicate n 0) k ≡ 0

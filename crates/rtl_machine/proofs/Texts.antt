@@ -1,5 +1,5 @@
 -- The program of a text can be loaded: what the limits of a text give of it.
-use Rattle.std.proofs.Common.{◌≡◌, ◌≢◌, ℕ, zero, suc, ◌+◌, ◌-◌, ◌/◌, ◌<◌, ◌≤◌, ◌^◌, Bool, true, false, List, [], ◌∷◌, ◌++◌, length, map, slice_get, get_or, Option, Some, None, All, Contains, inl, inr, refl, sym, subst, ap, ◌∙◌, arith}
+use Rattle.std.proofs.Common.{◌≡◌, ◌≢◌, ℕ, suc, ◌+◌, ◌-◌, ◌<◌, ◌≤◌, ◌^◌, Bool, true, false, List, [], ◌∷◌, length, get_or, Some, None, All, Contains, inl, inr, refl, sym, subst, ap, ◌∙◌, arith}
 use Rattle.std.specs.List.{AllZip, AllByRecursion}
 use Rattle.std.proofs.lemmas.List.Elements.{All-from_recursion, All-nil, All-cons, All-append, All-contains}
 use Rattle.std.proofs.lemmas.Option.{slice_get-get_or}
@@ -11,7 +11,7 @@ use Rattle.md_instances.specs.Instances.{IsOfDescription}
 use Rattle.asm_token.specs.Tokens.{Token}
 use Rattle.asm_program.specs.declared.places.Part.{Part}
 use Rattle.asm_program.specs.declared.places.Part.TheVariants.{Outside, InText, InData}
-use Rattle.asm_program.specs.TextLines.{Label, Block, Symbol, Said, Nothing, Unreadable, TextBegins, DataBegins, Labelled, Mislabelled, Word, Byte, Space, Others}
+use Rattle.asm_program.specs.TextLines.{Block, Symbol, Said, Nothing, TextBegins, DataBegins, Labelled, Others}
 use Rattle.asm_program.specs.Places.{Position, start, after, part_after, count_after, reach_in, reach_after}
 use Rattle.asm_program.specs.Rules.{IsSound, Walks, is_in_place, instruction_limit, word_bytes}
 use Rattle.asm_program.specs.Programs.{Assembled, HasObject, IsLineIn, IsText, instruction_of, instructions, data_part, bytes_after, bytes_from, object_of, objects_from}

@@ -1,12 +1,11 @@
 -- The program of a description as the definition of a run sees it, and machines that are loaded with one.
 use Rattle.std.specs.Prelude.{ℕ, ◌+◌, ◌-◌, ◌<◌, ◌≤◌, ◌≡◌, ◌^◌, ◌++◌, List, [], length, map, replicate, slice_get, slice_index, false, Option, Some, None, All}
-use Rattle.rtl_tree.specs.declared.cells.Lab.{Lab}
 use Rattle.rtl_tree.specs.Moves.{Move}
 use Rattle.rtl_value.specs.declared.state.LabelAt.{LabelAt}
 use Rattle.md_rows.specs.declared.description.RawDescription.{RawDescription}
 use Rattle.md_rows.specs.declared.row.Row.{Row}
 use Rattle.md_rows.specs.declared.instance.Bound.{Bound}
-use Rattle.md_rows.specs.declared.instance.Bound.TheVariants.{Reg, Num, Sym, Label}
+use Rattle.md_rows.specs.declared.instance.Bound.TheVariants.{Num, Sym, Label}
 use Rattle.md_rows.specs.declared.instance.Instance.{Instance}
 use Rattle.md_rows.specs.Instances.{effects_with}
 use Rattle.md_check.specs.Checking.{IsChecked}

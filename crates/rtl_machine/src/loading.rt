@@ -45,11 +45,7 @@ fn line_of(
 }
 
 // The transfers of the lines alone, in order.
-fn linked_lines(
-    alloc: Global,
-    d: &RawDescription,
-    p: &Program,
-) -> Result<Vec<Effects>, NoMemory>
+fn linked_lines(alloc: Global, d: &RawDescription, p: &Program) -> Result<Vec<Effects>, NoMemory>
     requires instances { All (IsOfDescription d.now) p.now.lines }
     ensures code { IfOk result (λ code. code.items ≡ map (linked_line d.now p.now) p.now.lines) }
     ensures assembled { IsAssembled p.now }

@@ -1,4 +1,4 @@
-use Rattle.std.proofs.Common.{◌≡◌, All, ap, ◌∙◌, sym, subst}
+use Rattle.std.proofs.Common.{All, ap, ◌∙◌, sym, subst}
 use Rattle.md_instances.specs.Instances.{IsOfDescription}
 use Rattle.asm_program.specs.Programs.{Assembled}
 use Rattle.rtl_machine.proofs.Made.{row_within}

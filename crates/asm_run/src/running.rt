@@ -1,6 +1,6 @@
 //! The run of a text's program on an accepted machine.
 
-ghost use Rattle.std.specs.Prelude.{◌≡◌, ◌→◌, IfOk, IfErr, OnOk, OnErr, Some};
+ghost use Rattle.std.specs.Prelude.{◌≡◌, IfOk, IfErr, OnOk, OnErr, Some};
 ghost use Rattle.md_verdict.specs.Verdict.{description_in};
 ghost use Rattle.asm_text.specs.Read.{IsFaultOf};
 ghost use Rattle.machine_step.specs.Steps.{HasCauses};
@@ -10,7 +10,8 @@ use asm_text::{AsmFault, read_text};
 use machine_step::Stop;
 use md_check::Checked;
 use md_verdict::Accepted;
-use rtl_machine::{Machine, texts_are_loadable};
+use rtl_machine::Machine;
+use rtl_machine::law::texts_are_loadable;
 use rtl_tree::NoMemory;
 use rtl_word::{W16, W32, Word};
 use std::alloc::Global;

@@ -71,12 +71,12 @@ pub const UNO_RUNS: [RunCase; 20] = [
         "100",
         b"\
 .text
-	set 72,a
-	put
-	set 321,a
-	put
-	set 7,a
-	end
+\tset 72,a
+\tput
+\tset 321,a
+\tput
+\tset 7,a
+\tend
 ",
         b"",
         b"HA",
@@ -145,7 +145,7 @@ end
         "100",
         b"\
 .text
-mov s,#32768
+mov s,#-32768
 call _f
 end
 _f:
@@ -202,7 +202,7 @@ _t:
         "100",
         b"\
 .text
-mov b,#32768
+mov b,#-32768
 ld a,(b)
 ",
         b"",
@@ -226,7 +226,7 @@ st a,(b)
         "100",
         b"\
 .text
-mov b,#32768
+mov b,#-32768
 stb a,(b)
 ",
         b"",
@@ -315,7 +315,7 @@ end
         "100",
         b"\
 .text
-mov a,#65535
+mov a,#-1
 add a,#2
 end
 ",
@@ -351,12 +351,12 @@ end",
     (
         "100",
         b"\
- 	.text 	
+ \t.text \t
  
-	* a note
+\t* a note
   L0 :
-	set	5 , a
-	 end	",
+\tset\t5 , a
+\t end\t",
         b"",
         b"",
         b"",
@@ -448,7 +448,7 @@ L0:
         "100",
         b"\
 .text
-mov #57344,sp
+mov #-8192,sp
 jsr pc,_f
 sys exit
 _f:
@@ -881,7 +881,7 @@ sys exit
 la $8,_w
 lw $2,0($8)
 sys putc
-lw $2,4($8)
+lw $2,8($8)
 sys exit
 .data
 .byte 1

@@ -99,7 +99,7 @@ fn is_refused(alloc: Global, text: &str, told: &str) -> Result<bool, AllocError>
     let seen = run(alloc, "9", PDP11, text.as_bytes(), input, sink(alloc, 1, &[0])?)?;
     Ok(
         seen.outcome.code() == 68
-            && seen.output.bytes() == b""
+            && seen.output.bytes().is_empty()
             && seen.errors.bytes() == told.as_bytes(),
     )
 }
@@ -119,7 +119,7 @@ fn fails_at_read(alloc: Global, read: u64, printed: &[u8]) -> Result<bool, Alloc
     Ok(
         seen.outcome == Outcome::ReadFault(Which::Input)
             && seen.output.bytes() == printed
-            && seen.errors.bytes() == b"vpo: read fault: input\n",
+            && seen.errors.bytes() == b"vpo: read fault: input\n".as_slice(),
     )
 }
 
@@ -130,7 +130,7 @@ fn fails_at_write(alloc: Global, write: u64, printed: &[u8]) -> Result<bool, All
     Ok(
         seen.outcome == Outcome::WriteFault
             && seen.output.bytes() == printed
-            && seen.errors.bytes() == b"vpo: write fault\n",
+            && seen.errors.bytes() == b"vpo: write fault\n".as_slice(),
     )
 }
 

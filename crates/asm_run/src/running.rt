@@ -34,6 +34,7 @@ fn run_on<W: Word, S: Source, K: Sink>(
     ensures untouched { OnErr result (output.new ≡ output.old) }
 {
     texts_are_loadable();
+    let _ = m.raw();
     let program = read_text::<W>(alloc, m, text)?;
     let mut machine = match Machine::load(alloc, m, &program) {
         Ok(machine) => machine,

@@ -3,5 +3,6 @@ mod Counts
 mod Outcomes
 mod Requests
 mod Steps
+mod Verdicts
 mod Runs
 mod Answers

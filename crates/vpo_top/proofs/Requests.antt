@@ -1,5 +1,5 @@
 -- What words ask for.
-use Rattle.std.proofs.Common.{◌≡◌, ◌≢◌, ℕ, List, [], ◌∷◌, Option, None, Some, refl, sym, subst, Bool, true, false, ◌&&◌, bytes_eq, Decides, cond, codes}
+use Rattle.std.proofs.Common.{◌≡◌, ◌≢◌, ℕ, List, [], ◌∷◌, Option, None, Some, refl, sym, subst, Bool, true, false, bytes_eq, Decides, cond, codes}
 use Rattle.std.specs.Prelude.{⊤, String, string_bytes}
 use Rattle.std.specs.declared.alloc.Global.{Global}
 use Rattle.std.proofs.lemmas.Slice.Eq.{bytes_eq-Decides}
@@ -8,7 +8,7 @@ use Rattle.shipped.specs.declared.Shipped.TheVariants.{Pdp11, Mips}
 use Rattle.shipped.specs.Shipped.{name_of}
 use Rattle.vpo_top.specs.declared.request.Request.{Request}
 use Rattle.vpo_top.specs.declared.request.Request.TheVariants.{Check as CheckOf, Cc as CcOf, Run as RunOf}
-use Rattle.vpo_top.specs.Request.{Asked, asked, is_file_word, is_compilation_form, check_of, show_of, compilation, compilation_of, request_of, steps_of, are_steps, step_limit, usual_steps, is_run_form, run_of, run_with_steps, three_words, five_words, names_a_file}
+use Rattle.vpo_top.specs.Request.{Asked, asked, is_file_word, is_compilation_form, check_of, show_of, compilation, compilation_of, request_of, steps_of, usual_steps, is_run_form, run_of, run_with_steps, names_a_file}
 use Rattle.vpo_top.specs.Request.Asked.{Check, Show, Cc, Run}
 
 -- the name of no machine that comes with the program

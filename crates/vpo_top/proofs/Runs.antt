@@ -1,5 +1,5 @@
 -- What is owed for a run, from what the two files hold and what their program came to.
-use Rattle.std.proofs.Common.{◌≡◌, ◌⊎◌, inl, inr, ℕ, ◌<◌, ◌≤◌, List, [], length, Option, Some, None, refl, sym, subst}
+use Rattle.std.proofs.Common.{◌≡◌, inl, inr, ℕ, ◌<◌, ◌≤◌, List, [], length, Option, Some, None, refl, sym, subst}
 use Rattle.vp_io.specs.Files.{Told, OfFile, FaultCounts, CountsOnly, RoseBy}
 use Rattle.vp_io.proofs.Counting.{rose_by_after}
 use Rattle.vp_io.specs.declared.answers.Reason.{Reason}
@@ -14,11 +14,12 @@ use Rattle.machine_step.specs.declared.running.Stop.{Stop}
 use Rattle.machine_step.specs.declared.running.Stop.TheVariants as stop
 use Rattle.asm_run.specs.Runs.{IsAssemblyText, TextRunsTo, TakesSome}
 use Rattle.vpo_top.specs.declared.running.Found.{Found}
+use Rattle.vpo_top.specs.Request.{Asked}
 use Rattle.vpo_top.specs.Request.Asked.{Run}
 use Rattle.vpo_top.specs.Judgement.{IsFetchRefusal, IsRefusal, OfFiles}
 use Rattle.vpo_top.specs.Commands.{IsAcceptedMachine, IsMachineOf, JudgesCheck, IsRefusalOfCheck}
 use Rattle.vpo_top.specs.Running.{assembly_limit, OfMachine, IsFoundIn, IsRunnable, JudgesRun, IsRefusalOfRun, IsOfRun, IsRunOfFiles, outcome_of}
-use Rattle.vpo_top.specs.Faults.{HasReadCause}
+use Rattle.vpo_top.specs.Faults.{HasReadCause, HasFileCause}
 use Rattle.vpo_top.proofs.Counts.{never_falls}
 
 -- a refusal of the description is one of the run
@@ -144,8 +145,8 @@ module _ (told : Told) (desc asm : List ℕ) (found : Found) where
           → OfFiles t desc asm (λ description text. IsRunOfFiles description text left steps old new (outcome_of steps s))
       by_files None is = tt
       by_files (Some files) is =
-          inr (s, (refl, of_machine (λ d. TextRunsTo d (files asm) left steps old new s) (files desc) is.machine
-              (subst (λ bytes. TextRunsTo (description_in found.machine) bytes left steps old new s) is.is ran)))
+          inr (s, refl, of_machine (λ d. TextRunsTo d (files asm) left steps old new s) (files desc) is.machine
+              (subst (λ bytes. TextRunsTo (description_in found.machine) bytes left steps old new s) is.is ran))
 
   stop_judged_of : (description text : List ℕ) (steps : ℕ) (s : Stop) → IsRunnable description text → JudgesRun description text (outcome_of steps s)
   stop_judged_of description text steps (stop.Ended status) is = is
@@ -195,3 +196,11 @@ stop_is_no_refusal steps (stop.Trapped kind place) r = r
 stop_is_no_refusal steps stop.Spent r = r
 stop_is_no_refusal steps stop.ReadFault r = r
 stop_is_no_refusal steps stop.WriteFault r = r
+
+pub file_cause : (wanted : Option Asked) (told : Told) (before now : FaultCounts) (o : Outcome) → HasReadCause wanted told before now o
+    → HasFileCause wanted told before now o
+file_cause wanted told before now (ReadFault Input) cause = tt
+file_cause wanted told before now (ReadFault Description) cause = cause
+file_cause wanted told before now (ReadFault Text) cause = cause
+file_cause wanted told before now (ReadFault Assembly) cause = cause
+file_cause wanted told before now _ cause = cause

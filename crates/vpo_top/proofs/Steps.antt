@@ -1,5 +1,5 @@
 -- Numbers of steps as words.
-use Rattle.std.proofs.Common.{◌≡◌, ◌≢◌, ℕ, ◌<◌, ◌≤◌, ◌^◌, List, Option, None, Some, Result, Ok, Err, refl, sym, subst, ap, ◌∙◌, Bool, true, false, ◌&&◌, bytes_eq, Decides, cond, arith}
+use Rattle.std.proofs.Common.{◌≡◌, ◌≢◌, ℕ, ◌≤◌, List, None, Some, Result, Ok, refl, sym, subst, ap, ◌∙◌, Bool, true, false, ◌&&◌, bytes_eq, Decides, cond, arith}
 use Rattle.std.specs.Prelude.{decimal, nat_le}
 use Rattle.std.specs.Str.Parse.{digits_value, ParsesUnsigned}
 use Rattle.std.proofs.lemmas.Slice.Eq.{bytes_eq-Decides}

@@ -1,5 +1,5 @@
 -- What the program owes for the words that it is given, over what lies outside before and after.
-use Rattle.std.specs.Prelude.{◌≡◌, ◌↔◌, ℕ, zero, suc, Bool, true, false, List, Option, Some, None, ⊤}
+use Rattle.std.specs.Prelude.{◌≡◌, ◌↔◌, ℕ, zero, suc, true, false, List, Option, Some, None}
 use Rattle.vp_io.specs.Files.{OfFile}
 use Rattle.vp_io.specs.declared.answers.Outcome.{Outcome}
 use Rattle.vp_io.specs.declared.answers.Outcome.TheVariants.{BadWords}

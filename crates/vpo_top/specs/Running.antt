@@ -3,7 +3,7 @@ use Rattle.std.specs.Prelude.{◌≡◌, ◌⊎◌, ℕ, ◌<◌, ◌≤◌, Lis
 use Rattle.vp_io.specs.declared.answers.Reason.{Reason}
 use Rattle.vp_io.specs.declared.answers.Which.TheVariants.{Assembly, Input}
 use Rattle.vp_io.specs.declared.answers.Outcome.{Outcome}
-use Rattle.vp_io.specs.declared.answers.Outcome.TheVariants.{Done, NoMemory, FileTooLong, BadAssembly, ReadFault, WriteFault, Trapped, Spent}
+use Rattle.vp_io.specs.declared.answers.Outcome.TheVariants.{Done, FileTooLong, BadAssembly, ReadFault, WriteFault, Trapped, Spent}
 use Rattle.md_rows.specs.declared.description.RawDescription.{RawDescription}
 use Rattle.md_check.specs.Accepted.{IsAcceptedText, normalised}
 use Rattle.asm_text.specs.Read.{IsCause}

@@ -1,6 +1,6 @@
 //! What the words of the command line ask for.
 
-ghost use Rattle.vpo_top.specs.Request.{request_of, three_words, five_words, compilation_of, is_compilation_form, run_of, is_run_form, run_with_steps, steps_of, usual_steps, show_of, check_of, bytes_of_words, is_file_word, IsReadAs};
+ghost use Rattle.vpo_top.specs.Request.{request_of, three_words, five_words, compilation_of, is_compilation_form, run_of, is_run_form, run_with_steps, are_steps, steps_of, usual_steps, show_of, check_of, bytes_of_words, is_file_word, IsReadAs};
 ghost use Rattle.std.specs.Prelude.{◌≡◌, [], ◌∷◌};
 
 use itoa::Buffer;
@@ -120,15 +120,21 @@ fn asks_for_run(command: &str, desc: &str, asm: &str) -> bool
     command == "run" && names_file(desc) && names_file(asm)
 }
 
-/// A number of steps is decimal, without a sign or leading zeros.
+/// Whether a word is this number of steps, in decimal, without a sign or leading zeros.
+fn are_steps(word: &str, steps: u64) -> bool
+    ensures { result ≡ are_steps word.now steps }
+{
+    let mut digits = Buffer::new();
+    1 <= steps && steps <= STEP_LIMIT && digits.format(steps) == word
+}
+
 fn read_steps(word: &str) -> Option<u64>
     ensures { result ≡ steps_of word.now }
 {
     let Ok(steps) = word.parse::<u64>() else {
         return None;
     };
-    let mut digits = Buffer::new();
-    if (1..=STEP_LIMIT).contains(&steps) && digits.format(steps) == word {
+    if are_steps(word, steps) {
         Some(steps)
     } else {
         None

@@ -5,4 +5,10 @@
 #[cfg(test)]
 mod cases;
 #[cfg(test)]
+mod run_cases;
+#[cfg(test)]
+mod run_tests;
+#[cfg(test)]
+mod seen;
+#[cfg(test)]
 mod tests;

@@ -75,35 +75,15 @@ pub(crate) const PDP11_TEXTS: [Text; 22] = [
         3,
         &[],
     ),
-    (
-        ".text\n_main:\nsys getc\nsys putc\nsys exit\n",
-        3,
-        &[F0],
-    ),
-    (
-        ".text\n_main:\nmov #1,r1\nL1:\nbr L1",
-        2,
-        &[F0, L1_AT_1],
-    ),
+    (".text\n_main:\nsys getc\nsys putc\nsys exit\n", 3, &[F0]),
+    (".text\n_main:\nmov #1,r1\nL1:\nbr L1", 2, &[F0, L1_AT_1]),
     (".text\n_f :\nrts pc\n", 1, &[F0]),
     (".text\n_if:\n", 0, &[F0]),
     (".text\njsr pc,_f\n_f:\nrts pc\n", 2, &[F0_AT_1]),
-    (
-        ".text\n_a:\n_b:\nbr _b\nbr _a\n",
-        2,
-        &[F0, F1],
-    ),
-    (
-        ".text\nL0:\nL1:\nbr L0\nbr L1\n",
-        2,
-        &[L0, L1],
-    ),
+    (".text\n_a:\n_b:\nbr _b\nbr _a\n", 2, &[F0, F1]),
+    (".text\nL0:\nL1:\nbr L0\nbr L1\n", 2, &[L0, L1]),
     (".text\nbr L5\nL5:\n", 1, &[L5_AT_1]),
-    (
-        ".text\nL4294967295:\nbr L4294967295\n",
-        1,
-        &[LAST],
-    ),
+    (".text\nL4294967295:\nbr L4294967295\n", 1, &[LAST]),
     (".text\nmov #_x,r1\nmov _x,_x\n.data\n_x:\n", 2, &[]),
     (
         ".text\n_aaaaaaaaaabbbbbbbbbbccccccccccddddddddddeeeeeeeeeeffffffffffggg:\n",
@@ -152,11 +132,7 @@ pub(crate) const MIPS_TEXTS: [Text; 3] = [
         &[F0],
     ),
     (".text\nbeq $8,$0,L2\nL2:\n", 1, &[L2_AT_1]),
-    (
-        ".text\njal _f\nori $8 , $9 , 65535\n_f:\n",
-        2,
-        &[F0_AT_2],
-    ),
+    (".text\njal _f\nori $8 , $9 , 65535\n_f:\n", 2, &[F0_AT_2]),
 ];
 
 pub(crate) const MIPS_DATA: [Data; 7] = [

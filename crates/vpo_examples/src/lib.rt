@@ -5,6 +5,10 @@
 #[cfg(test)]
 mod cases;
 #[cfg(test)]
+mod mips_runs;
+#[cfg(test)]
+mod pdp11_runs;
+#[cfg(test)]
 mod run_cases;
 #[cfg(test)]
 mod run_tests;
@@ -12,3 +16,5 @@ mod run_tests;
 mod seen;
 #[cfg(test)]
 mod tests;
+#[cfg(test)]
+mod uno_runs;

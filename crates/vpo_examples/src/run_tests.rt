@@ -2,8 +2,11 @@
 
 ghost use Rattle.std.specs.Prelude.{◌<◌};
 
-use crate::run_cases::{ECHO, MIPS_RUNS, PDP11_REFUSED, PDP11_RUNS, RunCase, UNO_RUNS, uno};
+use crate::mips_runs::MIPS_RUNS;
+use crate::pdp11_runs::{ECHO, PDP11_REFUSED, PDP11_RUNS};
+use crate::run_cases::RunCase;
 use crate::seen::{Seen, file, owned, sink};
+use crate::uno_runs::{UNO_RUNS, uno};
 use std::alloc::{AllocError, Global};
 use std::test::Fail;
 use vp_io::{MemFiles, MemSink, MemSource, Outcome, Which};
@@ -96,7 +99,14 @@ fn texts_run_on_mips(rt: HostRuntime) -> Result<(), Fail> {
 
 fn is_refused(alloc: Global, text: &str, told: &str) -> Result<bool, AllocError> {
     let input = source(alloc, b"x", 1, &[0])?;
-    let seen = run(alloc, "9", PDP11, text.as_bytes(), input, sink(alloc, 1, &[0])?)?;
+    let seen = run(
+        alloc,
+        "9",
+        PDP11,
+        text.as_bytes(),
+        input,
+        sink(alloc, 1, &[0])?,
+    )?;
     Ok(
         seen.outcome.code() == 68
             && seen.output.bytes().is_empty()

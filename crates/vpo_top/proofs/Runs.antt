@@ -145,8 +145,12 @@ module _ (told : Told) (desc asm : List ℕ) (found : Found) where
           → OfFiles t desc asm (λ description text. IsRunOfFiles description text left steps old new (outcome_of steps s))
       by_files None is = tt
       by_files (Some files) is =
-          inr (s, refl, of_machine (λ d. TextRunsTo d (files asm) left steps old new s) (files desc) is.machine
-              (subst (λ bytes. TextRunsTo (description_in found.machine) bytes left steps old new s) is.is ran))
+          inr (
+            s,
+            refl,
+            of_machine (λ d. TextRunsTo d (files asm) left steps old new s) (files desc) is.machine
+                (subst (λ bytes. TextRunsTo (description_in found.machine) bytes left steps old new s) is.is ran),
+          )
 
   stop_judged_of : (description text : List ℕ) (steps : ℕ) (s : Stop) → IsRunnable description text → JudgesRun description text (outcome_of steps s)
   stop_judged_of description text steps (stop.Ended status) is = is
@@ -163,9 +167,11 @@ module _ (told : Told) (desc asm : List ℕ) (found : Found) where
           → OfFiles t desc asm (λ description text. JudgesRun description text (outcome_of steps s))
       by_files None is = tt
       by_files (Some files) is =
-          stop_judged_of (files desc) (files asm) steps s
-          (is.short, of_machine (λ d. IsAssemblyText d (files asm)) (files desc) is.machine
-          (subst (λ bytes. IsAssemblyText (description_in found.machine) bytes) is.is text))
+          stop_judged_of (files desc) (files asm) steps s (
+            is.short,
+            of_machine (λ d. IsAssemblyText d (files asm)) (files desc) is.machine
+                (subst (λ bytes. IsAssemblyText (description_in found.machine) bytes) is.is text),
+          )
 
   -- it has no program
   pub reason_judged : (reason : Reason) → Found' → IsCause (description_in found.machine) found.text.items reason
@@ -175,9 +181,11 @@ module _ (told : Told) (desc asm : List ℕ) (found : Found) where
       by_files : (t : Told) → OfFiles t desc asm (λ description text. IsFoundIn description text found)
           → OfFiles t desc asm (λ description text. JudgesRun description text (BadAssembly reason))
       by_files None is = tt
-      by_files (Some files) is =
-          (is.short, of_machine (λ d. IsCause d (files asm) reason) (files desc) is.machine
-          (subst (λ bytes. IsCause (description_in found.machine) bytes reason) is.is cause))
+      by_files (Some files) is = (
+        is.short,
+        of_machine (λ d. IsCause d (files asm) reason) (files desc) is.machine
+            (subst (λ bytes. IsCause (description_in found.machine) bytes reason) is.is cause),
+      )
 
 pub memory_judged : (told : Told) (desc asm : List ℕ) → OfFiles told desc asm (λ description text. JudgesRun description text NoMemory)
 memory_judged None desc asm = tt

@@ -13,11 +13,7 @@ use std::alloc::Global;
 use vp_io::{Files, Outcome, Which};
 
 /// The accepted description in a file, or why there is none.
-pub fn machine_in<F: Files>(
-    alloc: Global,
-    files: &mut F,
-    name: &str,
-) -> Result<Accepted, Outcome>
+pub fn machine_in<F: Files>(alloc: Global, files: &mut F, name: &str) -> Result<Accepted, Outcome>
     ensures found { OfFile (F.files files.old) name.now (λ text. IfOk result (λ machine. IsMachineOf text machine)) }
     ensures judged { OfFile (F.files files.old) name.now (λ text. IfErr result (λ outcome. JudgesCheck text outcome)) }
     ensures possible { IfErr result (λ outcome. IsRefusalOfCheck outcome) }

@@ -118,20 +118,20 @@ fn link<W: Word>(n: u8, l: u32, s: &mut Held) -> Result<u32, Trap>
 
 /// Makes the transfer of a form, and tells where the program goes on, or the trap.
 #[inline(always)]
-pub fn make_form<W: Word>(form: Form, s: &mut Held) -> Result<u32, Trap>
+pub fn make_form<W: Word>(form: &Form, s: &mut Held) -> Result<u32, Trap>
     requires held { IsHeld W.BITS s.old }
-    requires fit { IsFit W.BITS form }
-    ensures goes { GoesAs (made_by W.BITS None (form_moves form) (state_of s.old)) s.old s.new result }
+    requires fit { IsFit W.BITS form.now }
+    ensures goes { GoesAs (made_by W.BITS None (form_moves form.now) (state_of s.old)) s.old s.new result }
     ensures held { IsHeld W.BITS s.new }
 {
     match form {
-        Form::Set(n, v) => set::<W>(n, v, s),
-        Form::Store(width, a, v) => put::<W>(width, a, v, s),
-        Form::Branch(r, a, b, l) => branch::<W>(r, a, b, l, s),
-        Form::Test(r, f, l) => test::<W>(r, f, l, s),
-        Form::Jump(a) => jump::<W>(a, s),
-        Form::Link(n, l) => link::<W>(n, l, s),
-        Form::SetFlags(n, v, f) => set_with_flags::<W>(n, v, f, s),
-        Form::StoreFlags(width, a, v, f) => put_with_flags::<W>(width, a, v, f, s),
+        Form::Set(n, v) => set::<W>(*n, *v, s),
+        Form::Store(width, a, v) => put::<W>(*width, *a, *v, s),
+        Form::Branch(r, a, b, l) => branch::<W>(*r, *a, *b, *l, s),
+        Form::Test(r, f, l) => test::<W>(*r, *f, *l, s),
+        Form::Jump(a) => jump::<W>(*a, s),
+        Form::Link(n, l) => link::<W>(*n, *l, s),
+        Form::SetFlags(n, v, f) => set_with_flags::<W>(*n, *v, *f, s),
+        Form::StoreFlags(width, a, v, f) => put_with_flags::<W>(*width, *a, *v, *f, s),
     }
 }

@@ -13,12 +13,12 @@ use vp_io::{Sink, Source};
 
 /// Makes an instruction of a common form, which takes and prints no byte.
 #[inline(always)]
-fn make_common<W: Word, K: Sink>(form: Form, m: &mut Running, sink: &mut K) -> Option<Stop>
+fn make_common<W: Word, K: Sink>(form: &Form, m: &mut Running, sink: &mut K) -> Option<Stop>
     requires ready { IsReady W.BITS m.old }
     requires goes { m.old.stopped ≡ None }
-    requires fit { IsFit W.BITS form }
+    requires fit { IsFit W.BITS form.now }
     requires next { m.old.held.next ≡ m.old.place + 1 }
-    ensures step { AloneIs W.BITS (Some (form_moves form)) m.old m.new (K.written sink.old) (K.written sink.new) (K.faults sink.old) (K.faults sink.new) result }
+    ensures step { AloneIs W.BITS (Some (form_moves form.now)) m.old m.new (K.written sink.old) (K.written sink.new) (K.faults sink.old) (K.faults sink.new) result }
     ensures ready { IsReady W.BITS m.new }
     ensures causes { HasCauses 0 0 (K.faults sink.old) (K.faults sink.new) result }
 {
@@ -48,7 +48,7 @@ fn make_prepared<W: Word, S: Source, K: Sink>(
     ensures causes { HasCauses (S.faults source.old) (S.faults source.new) (K.faults sink.old) (K.faults sink.new) result }
 {
     match line {
-        Prepared::Common(form) => make_common::<W, K>(*form, m, sink),
+        Prepared::Common(form) => make_common::<W, K>(form, m, sink),
         Prepared::General(effects) => {
             make_line::<W, S, K>(effects.get().list.as_slice(), m, source, sink)
         }

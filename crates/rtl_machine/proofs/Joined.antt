@@ -1,5 +1,5 @@
 -- A call of `run` from a program's start comes to what the definition's run comes to.
-use Rattle.std.proofs.Common.{◌≡◌, ℕ, ◌+◌, ◌≤◌, Bool, true, false, List, [], ◌++◌, take, length, Option, Some, None, refl, sym, ap, ◌∙◌, subst, append-nil, append_assoc, arith}
+use Rattle.std.proofs.Common.{◌≡◌, ℕ, ◌+◌, ◌≤◌, Bool, true, false, List, [], ◌++◌, take, length, Option, Some, None, refl, sym, ap, ◌∙◌, subst, append-nil, append_assoc, arith, map}
 use Rattle.std.proofs.Math.Seq.{take-append_seam}
 use Rattle.std.specs.Io.KnownBytes.{Appends, Consumes}
 use Rattle.vp_io.specs.Contents.{AppendsPart}
@@ -10,6 +10,7 @@ use Rattle.machine_devices.specs.Devices.{Prints}
 use Rattle.machine_step.specs.declared.running.Running.{Running}
 use Rattle.machine_step.specs.declared.running.Stop.{Stop}
 use Rattle.machine_step.specs.declared.running.Stop.TheVariants.{Ended, Trapped, Spent, ReadFault, WriteFault}
+use Rattle.machine_forms.specs.Forms.{moves_of as moves_in}
 use Rattle.machine_step.specs.Steps.{HasCauses, MarkMoves}
 use Rattle.machine_step.specs.Runs.{MayFollow, RunIs, MadeAll, AllRan}
 use Rattle.rtl_machine.specs.declared.parts.Parts.{Parts}
@@ -88,7 +89,7 @@ module _ (w : ℕ) (p : Code) (n : Running) (old new : Option (List ℕ)) (waite
       (subst (λ xs. IsPrefix xs (output (machine_run p input steps))) (r more may) front) prints
 
 pub runs_from : (w : ℕ) (p : Code) (m : Parts) (n : Running) (left left' written written' : Option (List ℕ)) (reads reads' writes writes' ends ends' steps : ℕ) (stop : Stop)
-    → IsLoaded w p m → AllRan w m.code.items m.running n left left' written written' ends ends' steps (Some stop) → HasCauses reads reads' writes writes' (Some stop)
+    → IsLoaded w p m → AllRan w (map moves_in m.code.items) m.running n left left' written written' ends ends' steps (Some stop) → HasCauses reads reads' writes writes' (Some stop)
     → RunsFrom p steps left written written' reads reads' writes writes' stop
 runs_from w p m n left left' written written' reads reads' writes writes' ends ends' steps stop l all causes =
     let f = all p l.code [] [] 0 l.run in

@@ -11,6 +11,7 @@ use Rattle.asm_program.specs.Programs.{Assembled, IsAssembled}
 use Rattle.machine_effect.specs.Law.{IsMade}
 use Rattle.machine_turn.specs.Held.{IsMadeMove}
 use Rattle.machine_step.specs.declared.running.Running.{Running}
+use Rattle.machine_forms.specs.Forms.{moves_of as moves_in}
 use Rattle.machine_step.specs.Steps.{IsCode, IsReady}
 use Rattle.machine_step.specs.Runs.{IsCodeOf, linked_moves}
 use Rattle.rtl_machine.specs.declared.parts.Parts.{Parts}
@@ -59,7 +60,7 @@ module _ (w : ℕ) (d : RawDescription) (p : Assembled) (sound : SaidIsSound) (b
     short = subst (λ n. n < 2 ^ w) (sym (ap length lines ∙ map_length (linked_line d p) p.lines)) short;
   }
 
-pub loaded : (w : ℕ) (d : RawDescription) (p : Assembled) (m : Parts) → IsLoadable d p → IsCodeOf w (code_of d p) m.code.items
+pub loaded : (w : ℕ) (d : RawDescription) (p : Assembled) (m : Parts) → IsLoadable d p → IsCodeOf w (code_of d p) (map moves_in m.code.items)
     → m.running.held.registers ≡ replicate 64 0 → m.running.held.flags ≡ replicate 8 None
     → m.running.held.memory.items ≡ memory_with_data d.base d.memory p.bytes → m.running.place ≡ 0 → m.running.waiting ≡ [] → m.running.reader.ended ≡ false
     → m.running.stopped ≡ None → IsLoaded w (code_of d p) m

@@ -12,6 +12,7 @@ use Rattle.md_check.specs.Checking.{IsChecked}
 use Rattle.md_instances.specs.Instances.{IsOfDescription}
 use Rattle.asm_program.specs.Programs.{Assembled, IsText}
 use Rattle.machine_run.specs.Machine.{Code, label_in}
+use Rattle.machine_forms.specs.Forms.{moves_of as moves_in}
 use Rattle.machine_step.specs.Steps.{IsCode, IsReady}
 use Rattle.machine_step.specs.Runs.{IsCodeOf, HasRun}
 use Rattle.rtl_machine.specs.declared.parts.Parts.{Parts}
@@ -62,12 +63,12 @@ TextsAreLoadable = (w : ℕ) (d : RawDescription) (text : List ℕ) (p : Assembl
 
 -- what holds of every machine
 pub record IsMachine (w : ℕ) (m : Parts) : Type 0 where
-  pub code : IsCode w m.code.items
+  pub code : IsCode w (map moves_in m.code.items)
   pub ready : IsReady w m.running
 
 -- the machine has the program's code, and has run it for no turn: nothing was taken and nothing printed
 pub record IsLoaded (w : ℕ) (p : Code) (m : Parts) : Type 0 where
-  pub code : IsCodeOf w p m.code.items
+  pub code : IsCodeOf w p (map moves_in m.code.items)
   pub run : HasRun w p m.running [] [] 0
   pub waiting : m.running.waiting ≡ []
   pub mark : m.running.reader.ended ≡ false

@@ -3,12 +3,14 @@
 ghost use Rattle.std.specs.Prelude.{All, IfOk, length, map, ◌+◌, ◌<◌, ◌≡◌, ◌≤◌};
 ghost use Rattle.asm_program.specs.Programs.{IsAssembled};
 ghost use Rattle.md_instances.specs.Instances.{IsOfDescription};
+ghost use Rattle.machine_forms.specs.Forms.{moves_of};
 ghost use Rattle.machine_step.specs.Runs.{IsCodeOf};
 ghost use Rattle.machine_step.specs.Steps.{IsCode};
 ghost use Rattle.rtl_machine.specs.Loading.{IsLoadable, code_of, linked_line, memory_with_data};
 
 use crate::linking::linked;
 use asm_program::Program;
+use machine_forms::{Prepared, prepare};
 use md_bounds::said_is_bounded;
 use md_check::{Checked, Layout};
 use md_instances::fill_row;
@@ -45,27 +47,27 @@ fn line_of(
 }
 
 // The transfers of the lines alone, in order.
-fn linked_lines(alloc: Global, d: &RawDescription, p: &Program) -> Result<Vec<Effects>, NoMemory>
+fn linked_lines(alloc: Global, d: &RawDescription, p: &Program) -> Result<Vec<Prepared>, NoMemory>
     requires instances { All (IsOfDescription d.now) p.now.lines }
-    ensures code { IfOk result (λ code. code.items ≡ map (linked_line d.now p.now) p.now.lines) }
+    ensures code { IfOk result (λ code. map moves_of code.items ≡ map (linked_line d.now p.now) p.now.lines) }
     ensures assembled { IsAssembled p.now }
 {
     let mut code = Vec::new(alloc);
     for line in &p.lines {
-        code.push(line_of(alloc, d, line, p)?)?;
+        code.push(prepare(alloc, line_of(alloc, d, line, p)?)?)?;
     }
     Ok(code)
 }
 
-/// The transfers of a program's lines, with numbers in place of names.
+/// The transfers of a program's lines, with numbers in place of names, prepared.
 pub fn code_in<W: Word>(
     alloc: Global,
     m: &Checked<W>,
     p: &Program,
-) -> Result<Vec<Effects>, NoMemory>
+) -> Result<Vec<Prepared>, NoMemory>
     requires loadable { IsLoadable m.now p.now }
-    ensures code { IfOk result (λ code. IsCodeOf W.BITS (code_of m.now p.now) code.items) }
-    ensures ready { IfOk result (λ code. IsCode W.BITS code.items) }
+    ensures code { IfOk result (λ code. IsCodeOf W.BITS (code_of m.now p.now) (map moves_of code.items)) }
+    ensures ready { IfOk result (λ code. IsCode W.BITS (map moves_of code.items)) }
 {
     said_is_sound();
     said_is_bounded();

@@ -1,7 +1,8 @@
 //! A machine with a program.
 
-ghost use Rattle.std.specs.Prelude.{IfOk, None, Some, ◌≡◌, ◌≢◌};
+ghost use Rattle.std.specs.Prelude.{IfOk, None, Some, map, ◌≡◌, ◌≢◌};
 ghost use Rattle.machine_run.specs.Machine.{Code};
+ghost use Rattle.machine_forms.specs.Forms.{moves_of};
 ghost use Rattle.machine_step.specs.Steps.{HasCauses};
 ghost use Rattle.machine_step.specs.Runs.{AllRan, StaysStopped, StopIsNoted};
 ghost use Rattle.rtl_machine.specs.Loading.{IsLoadable, IsLoaded, code_of};
@@ -11,7 +12,8 @@ use crate::loading::{code_in, memory_of};
 use crate::parts::Parts;
 use asm_program::Program;
 use machine_devices::{Buffer, Reader};
-use machine_step::{Running, Stop, run, step};
+use machine_pace::{run, step};
+use machine_step::{Running, Stop};
 use machine_turn::Held;
 use md_check::Checked;
 use rtl_tree::NoMemory;
@@ -74,7 +76,7 @@ impl<W: Word> Machine<W> {
         ensures stays { StaysStopped self.old.running self.new.running result }
         ensures same_source { self.old.running.stopped ≢ None → s.new ≡ s.old }
         ensures same_sink { self.old.running.stopped ≢ None → k.new ≡ k.old }
-        ensures ran { self.old.running.stopped ≡ None → AllRan W.BITS self.old.code.items self.old.running self.new.running (S.left s.old) (S.left s.new) (K.written k.old) (K.written k.new) (S.ends s.old) (S.ends s.new) 1 result }
+        ensures ran { self.old.running.stopped ≡ None → AllRan W.BITS (map moves_of self.old.code.items) self.old.running self.new.running (S.left s.old) (S.left s.new) (K.written k.old) (K.written k.new) (S.ends s.old) (S.ends s.new) 1 result }
         ensures stopped { self.old.running.stopped ≡ None → self.new.running.stopped ≡ result }
         ensures causes { self.old.running.stopped ≡ None → HasCauses (S.faults s.old) (S.faults s.new) (K.faults k.old) (K.faults k.new) result }
     {
@@ -88,7 +90,7 @@ impl<W: Word> Machine<W> {
         ensures stays { StaysStopped self.old.running self.new.running (Some result) }
         ensures same_source { self.old.running.stopped ≢ None → s.new ≡ s.old }
         ensures same_sink { self.old.running.stopped ≢ None → k.new ≡ k.old }
-        ensures ran { self.old.running.stopped ≡ None → AllRan W.BITS self.old.code.items self.old.running self.new.running (S.left s.old) (S.left s.new) (K.written k.old) (K.written k.new) (S.ends s.old) (S.ends s.new) steps (Some result) }
+        ensures ran { self.old.running.stopped ≡ None → AllRan W.BITS (map moves_of self.old.code.items) self.old.running self.new.running (S.left s.old) (S.left s.new) (K.written k.old) (K.written k.new) (S.ends s.old) (S.ends s.new) steps (Some result) }
         ensures stopped { self.old.running.stopped ≡ None → StopIsNoted self.new.running result }
         ensures causes { self.old.running.stopped ≡ None → HasCauses (S.faults s.old) (S.faults s.new) (K.faults k.old) (K.faults k.new) (Some result) }
         ensures from_start { (p : Code) → IsLoaded W.BITS p self.old → RunsFrom p steps (S.left s.old) (K.written k.old) (K.written k.new) (S.faults s.old) (S.faults s.new) (K.faults k.old) (K.faults k.new) result }

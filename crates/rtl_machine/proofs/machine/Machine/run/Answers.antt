@@ -1,4 +1,5 @@
-use Rattle.std.proofs.Common.{Some, sym, subst}
+use Rattle.std.proofs.Common.{map, Some, sym, subst}
+use Rattle.machine_forms.specs.Forms.{moves_of}
 use Rattle.machine_step.specs.Runs.{AllRan}
 use Rattle.rtl_machine.specs.Loading.{IsLoaded}
 use Rattle.rtl_machine.proofs.Joined.{runs_from}
@@ -9,7 +10,7 @@ returns-clause-from_start g c = λ p l.
     let start = subst (λ m. IsLoaded g.W.Word.BITS p m) (sym c.self.view_is) l in
     let ran =
     subst
-    (λ code. AllRan g.W.Word.BITS code c.self.inside.parts.running c.run.new.m (g.S.Source.left c.args.s.now) (g.S.Source.left c.run.new.source)
+    (λ code. AllRan g.W.Word.BITS (map moves_of code) c.self.inside.parts.running c.run.new.m (g.S.Source.left c.args.s.now) (g.S.Source.left c.run.new.source)
     (g.K.Sink.written c.args.k.now) (g.K.Sink.written c.run.new.sink) (g.S.Source.ends c.args.s.now) (g.S.Source.ends c.run.new.source) c.args.steps
     (Some c.run.result))
     c.deref.ensures.value (c.run.ensures.ran start.stopped) in

@@ -2,6 +2,7 @@
 #![tactic(auto)]
 
 mod expressions;
+mod nodes;
 mod scene;
 
 pub use expressions::{as_value, expression};

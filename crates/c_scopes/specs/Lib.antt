@@ -1,3 +1,2 @@
 pub mod Here
 pub mod Types
-pub mod Values

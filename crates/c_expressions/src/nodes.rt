@@ -324,16 +324,12 @@ fn type_at(signature: Option<&Signature>, i: usize) -> Option<CType>
     }
 }
 
-fn argument(
-    alloc: Global,
-    of: Option<CType>,
-    e: Boxed<TypedExpr>,
-) -> Result<Boxed<TypedExpr>, NoMemory>
+fn argument(alloc: Global, of: Option<CType>, e: Boxed<TypedExpr>) -> Result<TypedExpr, NoMemory>
     ensures { IfOk result (λ x. x ≡ spec.argument of e) }
 {
     match of {
-        None => Ok(e),
-        Some(of) => converted(alloc, of, e),
+        None => Ok(e.into_inner()),
+        Some(of) => Ok(converted(alloc, of, e)?.into_inner()),
     }
 }
 
@@ -351,8 +347,7 @@ pub fn push_argument(
     let Some(e) = e else {
         return Ok(false);
     };
-    let e = argument(alloc, type_at(signature, i), e)?;
-    trees.push(e.into_inner())?;
+    trees.push(argument(alloc, type_at(signature, i), e)?)?;
     Ok(true)
 }
 

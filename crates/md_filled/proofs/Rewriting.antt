@@ -6,6 +6,8 @@ use Rattle.rtl_tree.specs.Trees.{Tree, Number, Symbol, CodeLabel, Read, Load, Un
 use Rattle.rtl_tree.specs.Sorts.{IsFitting}
 use Rattle.rtl_norm.specs.Numbers.{is_constant}
 use Rattle.rtl_norm.proofs.Rewrites.{Rewrites, folds, folds_one, swaps, adds, joins, drops, compares, mirrors, negates, twice_neg, twice_not, extends, extends_low, cuts, bytes, goes}
+use Rattle.rtl_norm.specs.Normal.{norm}
+use Rattle.rtl_norm.proofs.Finish.{finish_keeps}
 use Rattle.md_rows.specs.declared.instance.Bound.{Bound}
 use Rattle.md_rows.specs.declared.instance.Bound.TheVariants.{Reg, Num, Sym, Label}
 use Rattle.md_rows.specs.Instances.{held_by, filled}
@@ -119,3 +121,15 @@ module _ (w : ℕ) (b : List Bound) where
   fitting_filled NoPair h f = tt
   fitting_filled (AnyNumber k) h f = word_is w (λ t. IsFitting w t) (AnyNumber k) (slice_get b k) h (λ n l. l)
   fitting_filled (AnyName k) h f = name_is (λ t. IsFitting w t) (AnyName k) (slice_get b k) h (λ n. tt) (λ l. tt)
+
+  pub norm_held : (t : Tree) → IsHeld w b t → IsHeld w b (norm w t)
+  norm_held (Load d a) h = finish_keeps w (IsHeld w b) held_kept (Load d (norm w a)) (norm_held a h)
+  norm_held (Unary o a) h = finish_keeps w (IsHeld w b) held_kept (Unary o (norm w a)) (norm_held a h)
+  norm_held (Binary o a c) h = finish_keeps w (IsHeld w b) held_kept (Binary o (norm w a) (norm w c)) (norm_held a h.0, norm_held c h.1)
+  norm_held (Number n) h = h
+  norm_held (Symbol n) h = h
+  norm_held (CodeLabel l) h = h
+  norm_held (Read c) h = h
+  norm_held NoPair h = h
+  norm_held (AnyNumber n) h = h
+  norm_held (AnyName n) h = h

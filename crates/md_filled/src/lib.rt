@@ -3,6 +3,7 @@
 #![tactic(auto)]
 
 ghost use Rattle.md_filled.specs.Law.{FilledFormIsSeen, FormIsFilled};
+ghost use Rattle.md_filled.specs.Doing.{RowDoesAs};
 
 /// In every view of words the normal form of a row's tree, filled, is seen as the tree filled is.
 #[tactic(auto, using(crate::proofs::Seen::filled_form_seen))]
@@ -15,4 +16,11 @@ pub fn filled_form_is_seen()
 #[tactic(auto, using(crate::proofs::Commuting::form_filled))]
 pub fn form_is_filled()
     ensures { FormIsFilled }
+{}
+
+/// A row that does a transfer, its other assignments going to flags and trapping only where a marked one does, makes with its binding a
+/// transfer that does the same.
+#[tactic(auto, using(crate::proofs::Doing::row_does_as))]
+pub fn row_does_as()
+    ensures { RowDoesAs }
 {}

@@ -532,8 +532,19 @@ module _ (w : ℕ) (b : List Bound) where
   load_rules : (d : Width) (a : Tree) → Rules (Load d a) (Load d (full a))
   unfolding fold_rule swap_rule mirror_rule minus_rule negate_rule join_rule neutral_rule twice_rule extend_rule cut_rule byte_rule pair_rule when_rule
   load_rules d a = record {
-    fold = refl; swap = refl; mirror = refl; minus = refl; negate = refl; join = refl; neutral = refl;
-    twice = refl; extend = refl; cut = refl; byte = refl; pair = refl; when = refl;
+    fold = refl;
+    swap = refl;
+    mirror = refl;
+    minus = refl;
+    negate = refl;
+    join = refl;
+    neutral = refl;
+    twice = refl;
+    extend = refl;
+    cut = refl;
+    byte = refl;
+    pair = refl;
+    when = refl;
   }
 
   number_none : (n : ℕ) → step w (Number n) ≡ None

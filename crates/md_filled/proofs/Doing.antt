@@ -176,8 +176,19 @@ partner_stores : (w : ℕ) (v : View) (g h : Goal) (t u : Tree) → Partner w v 
 partner_stores w v _ _ _ _ (cells d t u s i e) (inl q) = let k = q.is in absurd (cc)
 partner_stores w v _ _ _ _ (cells d t u s i e) (inr q) = let k = q.is in absurd (cc)
 partner_stores w v _ _ _ _ (stores d a c t u p x y e f i j k n) q = record {
-  width = d; old_at = a; new_at = c; old = refl; new = refl; address = p; old_value = x; new_value = y;
-  old_place = e; new_place = f; old_is = i; new_is = j; alike = k;
+  width = d;
+  old_at = a;
+  new_at = c;
+  old = refl;
+  new = refl;
+  address = p;
+  old_value = x;
+  new_value = y;
+  old_place = e;
+  new_place = f;
+  old_is = i;
+  new_is = j;
+  alike = k;
 }
 
 no_mark : (i : ℕ) → is_marked no_marks i ≡ false
@@ -446,11 +457,11 @@ module _ (w : ℕ) (b : List Bound) (effects es : List Move) (marks : Marks) (z 
   set_twice : (i j n : ℕ) (e f : Move) → i < j → slice_get effects i ≡ Some e → slice_get effects j ≡ Some f → e.to ≡ ToCell (Flag n) → f.to ≡ ToCell (Flag n) → ⊥
   set_twice i j n e f l p q g h =
       let apart : set_apart e f ≡ true =
-          subst (λ (x : Move). set_apart x f ≡ true) (get_or_from_slice_get effects i e e p)
-          (subst (λ (x : Move). set_apart (slice_index_or effects i e) x ≡ true) (get_or_from_slice_get effects j f e q)
-          (row.formed.once i j e l (slice_get_within effects j f q))) in
+      subst (λ (x : Move). set_apart x f ≡ true) (get_or_from_slice_get effects i e e p)
+      (subst (λ (x : Move). set_apart (slice_index_or effects i e) x ≡ true) (get_or_from_slice_get effects j f e q)
+      (row.formed.once i j e l (slice_get_within effects j f q))) in
       let same : same_goal_cell e.to f.to ≡ true =
-          ap (λ (x : Goal). same_goal_cell x f.to) g ∙ (ap (λ (x : Goal). same_goal_cell (ToCell (Flag n)) x) h ∙ same_cell-own (Flag n)) in
+      ap (λ (x : Goal). same_goal_cell x f.to) g ∙ (ap (λ (x : Goal). same_goal_cell (ToCell (Flag n)) x) h ∙ same_cell-own (Flag n)) in
       let first = (and_true (not (same_goal_cell e.to f.to)) _ apart).0 in
       unlike (sym (ap not same) ∙ first)
 
@@ -584,11 +595,11 @@ module _ (w : ℕ) (b : List Bound) (effects es : List Move) (marks : Marks) (z 
       let new_goal = same_memory u.width t.width u.place t.new_at t.new in
       let old_value : n.move.value ≡ s.value = ap (λ (x : Move). x.value) m ∙ a.value in
       let old = patch_by s.width s.place s.value t.address t.old_value
-          (subst (λ (x : Tree). seen w x v ≡ Ok t.old_value) old_value t.old_is)
-          (subst (λ (x : Tree). place_of w s.width x v ≡ Ok t.address) old_goal.1 (subst (λ (d : Width). place_of w d t.old_at v ≡ Ok t.address) old_goal.0 t.old_place)) in
+      (subst (λ (x : Tree). seen w x v ≡ Ok t.old_value) old_value t.old_is)
+      (subst (λ (x : Tree). place_of w s.width x v ≡ Ok t.address) old_goal.1 (subst (λ (d : Width). place_of w d t.old_at v ≡ Ok t.address) old_goal.0 t.old_place)) in
       let new_patch = patch_by u.width u.place u.value t.address t.new_value
-          (subst (λ (x : Tree). seen w x v ≡ Ok t.new_value) n.is t.new_is)
-          (subst (λ (x : Tree). place_of w u.width x v ≡ Ok t.address) (sym new_goal.1) (subst (λ (d : Width). place_of w d t.new_at v ≡ Ok t.address) (sym new_goal.0) t.new_place)) in
+      (subst (λ (x : Tree). seen w x v ≡ Ok t.new_value) n.is t.new_is)
+      (subst (λ (x : Tree). place_of w u.width x v ≡ Ok t.address) (sym new_goal.1) (subst (λ (d : Width). place_of w d t.new_at v ≡ Ok t.address) (sym new_goal.0) t.new_place)) in
       let whole_old : Some (record { at = t.address; count = width_of w s.width; value = t.old_value }) ≡ p = ok_is _ _ (sym old ∙ g) in
       let widths : s.width ≡ u.width = sym old_goal.0 ∙ sym new_goal.0 in
       record {

@@ -76,7 +76,7 @@ module _ (w : ℕ) (b : List Bound) (v : View) where
       let m = bound (seen w l.at v) (touched (width_of w d) v) at.0 at.1 in
       let u : Option ℕ = word_at v.bytes at.0 (width_of w d) in
       let whole : seen w (Load d l.at) v ≡ Ok u =
-          ap (load_on (width_of w d) v) m.is ∙ ap (λ r. bind r (λ c. Ok (word_at v.bytes c (width_of w d)))) m.rest in
+      ap (load_on (width_of w d) v) m.is ∙ ap (λ r. bind r (λ c. Ok (word_at v.bytes c (width_of w d)))) m.rest in
       part_seen w b v x (Load d s) n h
       (record { value = u; is = alike_seen w v (filled b (Load d s)) (Load d l.at) u (subst (λ (q : Tree). IsAlike (Load d (filled b s)) q) l.is a) whole }) o
 

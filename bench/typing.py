@@ -3,11 +3,11 @@
 
 No command of the program goes through typing yet, so a small program is made and built in a temporary folder, with the repository's crates
 beside it: by `rt run`, which takes over what was proved of them on this machine, or with `--unproved` by `rt try`, which proves nothing and
-compiles with checks, so that its times are many times longer; there the sources have an eighth of the size. The program reads all sources and
+compiles with checks, so that its times are a hundred times longer; there the sources have a thirty-second part of the size. The program reads all sources and
 prints for each how long its parts took, which leaves out the start of the process and the reading.
 
 The sources have up to 1 MiB: many functions; one function of many statements; blocks that nest to the limit, each with names of its own
-and uses of those around it; and one switch of many cases.
+and uses of those around it; values of an initialiser; objects of the file, and of one block; and one switch of many cases.
 """
 import os
 import shutil
@@ -94,6 +94,18 @@ def blocks(size):
     return repeated("int main(void){", nest, "}", size)
 
 
+def values(size):
+    return repeated("int a[]={0", lambda n: f",{n % 1000}", "};" + END, size)
+
+
+def statics(size):
+    return repeated("", lambda n: f"int a{n};", END, size)
+
+
+def locals_of_one(size):
+    return repeated("int main(void){", lambda n: f"int a{n};", "}", size)
+
+
 def cases(size):
     return repeated("int main(void){switch(1){", lambda n: f"case {n}:;", "}}", size)
 
@@ -108,9 +120,8 @@ def folder_of(temporary):
         file.write(PROGRAM)
     with open(os.path.join(ROOT, "crates.txt")) as file:
         lines = file.read()
-    names = [line.split(":")[0] for line in lines.splitlines() if line.startswith("c_") and not line.startswith("c_examples")]
     with open(os.path.join(temporary, "crates.txt"), "w") as file:
-        file.write(f"{lines}typist: {' '.join(names)} rtl_word vp_io sqlite_items\n")
+        file.write(f"{lines}typist: c_source c_types c_tree rtl_word\n")
     return os.path.dirname(source)
 
 
@@ -130,9 +141,12 @@ def main():
         ("many functions", functions),
         ("one function of many statements", statements),
         ("deep blocks with many names", blocks),
+        ("values of an initialiser", values),
+        ("objects of the file", statics),
+        ("objects of one block", locals_of_one),
         ("one switch of many cases", cases),
     ]
-    sizes = [size // 8 if unproved else size for size in SIZES]
+    sizes = [size // 32 if unproved else size for size in SIZES]
     sources = [source(size) for _, source in kinds for size in sizes]
     with tempfile.TemporaryDirectory() as temporary:
         folder = folder_of(temporary)

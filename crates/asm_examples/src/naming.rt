@@ -1,7 +1,7 @@
 //! Whether the values of an instance have names on a line.
 
 ghost use Rattle.std.specs.Prelude.{◌↔◌, All, IsTrue};
-ghost use Rattle.asm_line.specs.Line.{IsNamed};
+ghost use Rattle.asm_row.specs.Line.{IsNamed};
 
 use md_rows::Bound;
 use rtl_tree::{Cell, Lab, Names};

@@ -2,7 +2,7 @@
 use Rattle.std.proofs.Common.{◌≡◌, ◌≢◌, ℕ, ◌<◌, Bool, true, false, not, cond, List, Option, Some, None, refl, sym, subst, ◌∙◌, arith}
 use Rattle.asm_token.specs.Tokens.{Token}
 use Rattle.md_rows.specs.declared.description.RawDescription.{RawDescription}
-use Rattle.asm_line.specs.Found.{IsFound}
+use Rattle.asm_row.specs.Found.{IsFound}
 use Rattle.asm_program.specs.declared.places.Part.{Part}
 use Rattle.asm_program.specs.declared.places.Part.TheVariants.{Outside, InText, InData}
 use Rattle.asm_program.specs.declared.rules.Rule.{Rule}

@@ -9,7 +9,7 @@ use Rattle.std.proofs.lemmas.Slice.Eq.{bytes_eq-Decides}
 use denote.Ref.{Bor}
 use Rattle.asm_token.specs.Tokens.{Token}
 use Rattle.asm_program.specs.Places.{symbol_in, with_name, with_names}
-use Rattle.asm_line.specs.Walk.{IsToken, IsEnd}
+use Rattle.asm_row.specs.Walk.{IsToken, IsEnd}
 use Rattle.asm_faults.specs.Counts.{AreAdding, HoldsNames, with_some}
 
 -- more names by one

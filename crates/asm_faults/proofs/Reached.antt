@@ -14,7 +14,7 @@ use Rattle.asm_labels.specs.declared.saying.Said.{Said as Held}
 use Rattle.asm_labels.specs.Seen.{IsSaid, OnOthers, seen}
 use Rattle.asm_labels.proofs.Opening.{opens}
 use Rattle.asm_token.specs.Tokens.{Token}
-use Rattle.asm_line.specs.Walk.{IsLine}
+use Rattle.asm_row.specs.Walk.{IsLine}
 use Rattle.asm_faults.specs.Counts.{Shows}
 use Rattle.asm_faults.specs.declared.positions.Standing.{Standing}
 use Rattle.asm_faults.specs.Checks.{KeepsRules, IsLeast, IsWalked}

@@ -4,14 +4,14 @@ use Rattle.std.specs.List.{AllByRecursion}
 use Rattle.std.proofs.lemmas.List.Elements.{All-from_recursion, recursion_from_All}
 use Rattle.asm_token.specs.Tokens.{Token}
 use Rattle.md_rows.specs.declared.description.RawDescription.{RawDescription}
-use Rattle.asm_line.specs.Readable.{IsReadable}
-use Rattle.asm_line.specs.Reading.{Value}
-use Rattle.asm_line.specs.Found.{IsFound}
+use Rattle.asm_row.specs.Readable.{IsReadable}
+use Rattle.asm_row.specs.Reading.{Value}
+use Rattle.asm_row.specs.Found.{IsFound}
 use Rattle.asm_program.specs.declared.rules.Rule.TheVariants.{NotInPart}
 use Rattle.asm_program.specs.TextLines.{Said}
 use Rattle.asm_program.specs.Rules.{IsMade, IsPlaced}
 use Rattle.asm_faults.specs.Checks.{IsRowChecked}
-use Rattle.asm_line.proofs.FoundOnce.{found_once}
+use Rattle.asm_row.proofs.FoundOnce.{found_once}
 
 not_both : (b : Bool) → b ≡ true → b ≡ false → ⊥
 not_both b e f = cc

@@ -2,8 +2,8 @@
 use Rattle.std.specs.Prelude.{◌≡◌, ◌≢◌, ℕ, ◌<◌, true, List, Option, Some, None}
 use Rattle.asm_token.specs.Tokens.{Token}
 use Rattle.md_rows.specs.declared.description.RawDescription.{RawDescription}
-use Rattle.asm_line.specs.Reading.{Value}
-use Rattle.asm_line.specs.Found.{IsFound}
+use Rattle.asm_row.specs.Reading.{Value}
+use Rattle.asm_row.specs.Found.{IsFound}
 use Rattle.asm_program.specs.declared.rules.Rule.{Rule}
 use Rattle.asm_program.specs.declared.rules.Rule.TheVariants.{NoRow, NotInPart}
 use Rattle.asm_program.specs.TextLines.{Label, Said, Labelled, Unreadable}

@@ -3,8 +3,8 @@
 ghost use Rattle.std.specs.Prelude.{◌≡◌, ◌+◌, ◌-◌, ◌<◌, ◌≤◌, ◌^◌, ◌↔◌, IfNone, IsTrue, List};
 ghost use Rattle.rtl_word.specs.Words.{IsWordSize};
 ghost use Rattle.asm_token.specs.Tokens.{Token as SpecToken};
-ghost use Rattle.asm_line.specs.Readable.{IsReadable};
-ghost use Rattle.asm_line.specs.Walk.{IsLine};
+ghost use Rattle.asm_row.specs.Readable.{IsReadable};
+ghost use Rattle.asm_row.specs.Walk.{IsLine};
 ghost use Rattle.asm_program.specs.declared.places.Part.TheVariants.{InData, InText};
 ghost use Rattle.asm_program.specs.TextLines.{Said as SpecSaid, Unreadable};
 ghost use Rattle.asm_program.specs.Places.{Position, magnitude};
@@ -17,8 +17,8 @@ ghost use Rattle.asm_faults.specs.Checks.{IsChecked, IsFirstHere};
 use crate::instructions::row_fault;
 use crate::positions::Standing;
 use asm_labels::{Label, Labels, Said};
-use asm_line::{Next, next_token};
 use asm_program::{Part, Rule};
+use asm_row::{Next, RowIndex, next_token};
 use asm_token::token::Token;
 use md_rows::RawDescription;
 
@@ -121,12 +121,14 @@ fn is_unreadable(said: Said<'_>) -> bool
 // The rule of those before the limits that a line breaks.
 pub(crate) fn line_fault(
     d: &RawDescription,
+    rows: &RowIndex<'_>,
     labels: &Labels<'_>,
     at: &Standing<'_>,
     said: Said<'_>,
     line: &[u8],
 ) -> Option<Rule>
     requires readable { IsReadable d.now }
+    requires rows { rows.now ≡ d.now }
     ensures near { IfNone result (at.now.place.part ≡ InData → space_in said.entry < 4294967296) }
     ensures checked { (all : List SpecSaid) (p : Position) (ts : List SpecToken) → AreLabels all labels.now → Shows at.now p → OnOthers said.entry (IsLine line.now ts) → IsChecked d.now all p (seen said.entry ts) result }
 {
@@ -140,7 +142,7 @@ pub(crate) fn line_fault(
         return Some(Rule::Misplaced);
     }
     match said {
-        Said::Others => row_fault(d, labels, line),
+        Said::Others => row_fault(rows, labels, line),
         _ => None,
     }
 }

@@ -2,7 +2,7 @@
 
 ghost use Rattle.std.specs.Prelude.{◌≡◌, IfOk, List, true};
 ghost use Rattle.md_rows.specs.declared.description.RawDescription.{RawDescription as SpecDescription};
-ghost use Rattle.asm_line.specs.Readable.{IsReadable};
+ghost use Rattle.asm_row.specs.Readable.{IsReadable};
 ghost use Rattle.asm_program.specs.TextLines.{Said as SpecSaid, lines_of};
 ghost use Rattle.asm_program.specs.Places.{start as first_position};
 ghost use Rattle.asm_program.specs.Rules.{AreSaid, IsTold, first_is_long, is_blank};
@@ -15,6 +15,7 @@ use crate::positions::Standing;
 use asm_labels::{Labels, is_skipped, labels_of, said_on, split_line};
 use asm_program::law::says_one_thing;
 use asm_program::{Part, Place, Rule};
+use asm_row::RowIndex;
 use md_rows::RawDescription;
 use rtl_tree::NoMemory;
 use std::alloc::Global;
@@ -78,10 +79,12 @@ fn start<'t>(alloc: Global) -> Standing<'t>
 fn first_fault(
     alloc: Global,
     d: &RawDescription,
+    rows: &RowIndex<'_>,
     labels: &Labels<'_>,
     text: &[u8],
 ) -> Result<Option<Told>, NoMemory>
     requires readable { IsReadable d.now }
+    requires rows { rows.now ≡ d.now }
     ensures { IfOk result (λ told. (all : List SpecSaid) → AreSaid text.now all → AreLabels all labels.now → IsWalked d.now all told) }
 {
     says_one_thing();
@@ -92,7 +95,7 @@ fn first_fault(
         let (line, behind) = split_line(rest);
         let said = said_on(line);
         let number = at.place.line + 1;
-        if let Some(rule) = line_fault(d, labels, &at, said, line) {
+        if let Some(rule) = line_fault(d, rows, labels, &at, said, line) {
             return Ok(Some((number, rule)));
         }
         at = at.after(bytes, said, line)?;
@@ -104,9 +107,15 @@ fn first_fault(
     Ok(None)
 }
 
-/// The line and the rule that are told of a text, or none where it keeps the rules.
-pub fn fault_of(alloc: Global, d: &RawDescription, text: &[u8]) -> Result<Option<Told>, NoMemory>
+/// The line and the rule that are told of a text, or none where it keeps the rules. An index has the rows of the description.
+pub fn fault_of(
+    alloc: Global,
+    d: &RawDescription,
+    rows: &RowIndex<'_>,
+    text: &[u8],
+) -> Result<Option<Told>, NoMemory>
     requires readable { IsReadable d.now }
+    requires rows { rows.now ≡ d.now }
     ensures { IfOk result (λ told. IsJudged d.now text.now told) }
 {
     says_one_thing();
@@ -114,5 +123,5 @@ pub fn fault_of(alloc: Global, d: &RawDescription, text: &[u8]) -> Result<Option
         return Ok(Some(blank_fault(text)));
     }
     let labels = labels_of(alloc, text)?;
-    first_fault(alloc, d, &labels, text)
+    first_fault(alloc, d, rows, &labels, text)
 }

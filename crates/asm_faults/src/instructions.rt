@@ -3,9 +3,9 @@
 ghost use Rattle.std.specs.Prelude.{◌↔◌, IsTrue, List};
 ghost use Rattle.std.specs.List.{AllByRecursion};
 ghost use Rattle.asm_token.specs.Tokens.{Token};
-ghost use Rattle.asm_line.specs.Readable.{IsReadable};
-ghost use Rattle.asm_line.specs.Walk.{IsLine};
-ghost use Rattle.asm_line.specs.Found.{value_of, values_of};
+ghost use Rattle.asm_row.specs.Readable.{IsReadable};
+ghost use Rattle.asm_row.specs.Walk.{IsLine};
+ghost use Rattle.asm_row.specs.Found.{value_of, values_of};
 ghost use Rattle.asm_program.specs.TextLines.{Said as SpecSaid};
 ghost use Rattle.asm_program.specs.Rules.{IsPlaced, StandsIn};
 ghost use Rattle.asm_labels.specs.Seen.{label_of};
@@ -13,9 +13,8 @@ ghost use Rattle.asm_labels.specs.Tables.{AreLabels};
 ghost use Rattle.asm_faults.specs.Checks.{IsRowChecked};
 
 use asm_labels::{Label, Labels};
-use asm_line::{Value, find_row};
 use asm_program::{Part, Rule};
-use md_rows::RawDescription;
+use asm_row::{RowIndex, Value};
 
 fn stands_in(labels: &Labels<'_>, label: Label<'_>, part: Part) -> bool
     ensures { (all : List SpecSaid) → AreLabels all labels.now → (IsTrue result ↔ StandsIn all (label_of label.entry) part) }
@@ -47,11 +46,11 @@ fn are_placed(labels: &Labels<'_>, values: &[Value<'_>]) -> bool
 }
 
 /// The rule that an instruction breaks by its row or its labels.
-pub(crate) fn row_fault(d: &RawDescription, labels: &Labels<'_>, line: &[u8]) -> Option<Rule>
-    requires readable { IsReadable d.now }
-    ensures { (all : List SpecSaid) (ts : List Token) → AreLabels all labels.now → IsLine line.now ts → IsRowChecked d.now all ts result }
+pub(crate) fn row_fault(rows: &RowIndex<'_>, labels: &Labels<'_>, line: &[u8]) -> Option<Rule>
+    requires readable { IsReadable rows.now }
+    ensures { (all : List SpecSaid) (ts : List Token) → AreLabels all labels.now → IsLine line.now ts → IsRowChecked rows.now all ts result }
 {
-    match find_row(d, line) {
+    match rows.find(line) {
         None => Some(Rule::NoRow),
         Some((_, values)) => {
             if are_placed(labels, values.as_slice()) {

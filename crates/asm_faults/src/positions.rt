@@ -3,7 +3,7 @@
 ghost use Rattle.std.specs.Prelude.{◌≡◌, ◌+◌, ◌<◌, ◌≤◌, ◌^◌, ℕ, IfOk, List, filter_map, option_map};
 ghost use Rattle.asm_token.specs.Tokens.{Token as SpecToken};
 ghost use Rattle.asm_token.specs.Seen.{token_of};
-ghost use Rattle.asm_line.specs.Walk.{IsLine};
+ghost use Rattle.asm_row.specs.Walk.{IsLine};
 ghost use Rattle.asm_program.specs.declared.places.Part.TheVariants.{InData};
 ghost use Rattle.asm_program.specs.Places.{Position, after, aligned, count_after, reach_after, reach_in, symbol_in, symbols_on, with_name, with_names};
 ghost use Rattle.asm_program.specs.TextLines.{Labelled};
@@ -11,8 +11,8 @@ ghost use Rattle.asm_labels.specs.Seen.{OnOthers, label_of, seen};
 ghost use Rattle.asm_faults.specs.Counts.{HoldsNames, IsSmall, Shows, space_in, with_some};
 
 use asm_labels::{Label, Said, part_after};
-use asm_line::{Next, next_token};
 use asm_program::{Part, Place};
+use asm_row::{Next, next_token};
 use asm_token::token::Token;
 use rtl_tree::NoMemory;
 use std::collections::HashSet;

@@ -6,14 +6,14 @@ use Rattle.rtl_tree.specs.declared.c_names.Names.{Names}
 use Rattle.md_rows.specs.declared.description.RawDescription.{RawDescription}
 use Rattle.md_rows.specs.declared.instance.Bound.{Bound}
 use Rattle.md_rows.specs.declared.instance.Instance.{Instance}
-use Rattle.asm_line.specs.Line.{HasNumber, IsLineOf}
-use Rattle.asm_line.specs.Readable.{IsReadable}
-use Rattle.asm_line.specs.Reading.{Value, AreValues}
-use Rattle.asm_line.specs.Found.{IsFound, NoRow}
-use Rattle.asm_line.proofs.Made.{made}
-use Rattle.asm_line.proofs.Unique.{line_reads, one_instance}
+use Rattle.asm_row.specs.Line.{HasNumber, IsLineOf}
+use Rattle.asm_row.specs.Readable.{IsReadable}
+use Rattle.asm_row.specs.Reading.{Value, AreValues}
+use Rattle.asm_row.specs.Found.{IsFound, NoRow}
+use Rattle.asm_row.proofs.Made.{made}
+use Rattle.asm_row.proofs.Unique.{line_reads, one_instance}
 use Rattle.asm_instances.specs.Known.{IsBoundLine, IsKnown, IsKnownLine}
-use Rattle.asm_line.proofs.FoundOnce.{found_once}
+use Rattle.asm_row.proofs.FoundOnce.{found_once}
 
 module _ (d : RawDescription) (readable : IsReadable d) (n : Names) (ts : List Token) where
   -- what is found is known

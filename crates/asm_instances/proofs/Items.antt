@@ -4,10 +4,10 @@ use Rattle.std.proofs.lemmas.List.{take_more, map-append}
 use Rattle.std.proofs.lemmas.List.Elements.{All-nil, All-cons, All-append, All-tail, All-head}
 use Rattle.rtl_tree.specs.declared.c_names.Names.{Names}
 use Rattle.md_rows.specs.declared.instance.Bound.{Bound}
-use Rattle.asm_line.specs.declared.values.Value.{Value as Held}
-use Rattle.asm_line.specs.Line.{HasNumber}
-use Rattle.asm_line.specs.Reading.{Value, AreValues, value_in}
-use Rattle.asm_line.specs.Found.{value_of, values_of}
+use Rattle.asm_row.specs.declared.values.Value.{Value as Held}
+use Rattle.asm_row.specs.Line.{HasNumber}
+use Rattle.asm_row.specs.Reading.{Value, AreValues, value_in}
+use Rattle.asm_row.specs.Found.{value_of, values_of}
 
 pub item_of : (P : Value → Type 0) (vs : List Held) (i : ℕ) (d : Held) → i < length vs → All P (values_of vs) → P (value_of (get_or vs i d))
 item_of P [] i d h a = absurd (omega arith)

@@ -7,8 +7,8 @@ use Rattle.asm_token.specs.Tokens.{Token}
 use Rattle.rtl_tree.specs.declared.c_names.Names.{Names}
 use Rattle.md_rows.specs.declared.description.RawDescription.{RawDescription}
 use Rattle.md_rows.specs.declared.instance.Instance.{Instance}
-use Rattle.asm_line.specs.Reading.{Value, Object, Function, Register_, Number, Block}
-use Rattle.asm_line.specs.Walk.{IsLine}
+use Rattle.asm_row.specs.Reading.{Value, Object, Function, Register_, Number, Block}
+use Rattle.asm_row.specs.Walk.{IsLine}
 use Rattle.asm_program.specs.declared.places.Part.{Part}
 use Rattle.asm_program.specs.declared.places.Part.TheVariants.{Outside, InText, InData}
 use Rattle.asm_program.specs.TextLines.{Said, Others, Says}

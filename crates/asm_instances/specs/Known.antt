@@ -5,9 +5,9 @@ use Rattle.asm_token.specs.Tokens.{Token}
 use Rattle.rtl_tree.specs.declared.c_names.Names.{Names}
 use Rattle.md_rows.specs.declared.description.RawDescription.{RawDescription}
 use Rattle.md_rows.specs.declared.instance.Instance.{Instance}
-use Rattle.asm_line.specs.Reading.{Value, Object, Function, AreValues}
-use Rattle.asm_line.specs.Found.{IsFound}
-use Rattle.asm_line.specs.Walk.{IsLine}
+use Rattle.asm_row.specs.Reading.{Value, Object, Function, AreValues}
+use Rattle.asm_row.specs.Found.{IsFound}
+use Rattle.asm_row.specs.Walk.{IsLine}
 use Rattle.asm_program.specs.declared.places.Part.TheVariants.{InText, InData}
 use Rattle.asm_program.specs.TextLines.{Symbol, Said}
 use Rattle.asm_program.specs.Places.{Position}

@@ -2,15 +2,15 @@
 
 ghost use Rattle.std.specs.Prelude.{◌≡◌, ◌≤◌, All, IfOk, List, Some, length};
 ghost use Rattle.asm_token.specs.Tokens.{Token};
-ghost use Rattle.asm_line.specs.Line.{HasNumber};
-ghost use Rattle.asm_line.specs.Reading.{AreValues, value_in};
-ghost use Rattle.asm_line.specs.Readable.{IsReadable};
-ghost use Rattle.asm_line.specs.Found.{value_of, values_of};
-ghost use Rattle.asm_line.specs.Walk.{IsLine};
+ghost use Rattle.asm_row.specs.Line.{HasNumber};
+ghost use Rattle.asm_row.specs.Reading.{AreValues, value_in};
+ghost use Rattle.asm_row.specs.Readable.{IsReadable};
+ghost use Rattle.asm_row.specs.Found.{value_of, values_of};
+ghost use Rattle.asm_row.specs.Walk.{IsLine};
 ghost use Rattle.asm_instances.specs.Known.{IsBoundLine, IsKnown, IsKnownLine};
 
-use asm_line::{Value, find_row};
-use md_rows::{Binding, Bound, Instance, RawDescription};
+use asm_row::{RowIndex, Value};
+use md_rows::{Binding, Bound, Instance};
 use rtl_tree::{Cell, Lab, Names, NoMemory};
 use smallvec::SmallVec;
 use std::alloc::Global;
@@ -52,16 +52,16 @@ fn bind(alloc: Global, names: &Names, values: &[Value<'_>]) -> Result<Binding, N
 /// The instance of a line of an instruction whose names all have numbers.
 pub fn instance_of(
     alloc: Global,
-    d: &RawDescription,
+    rows: &RowIndex<'_>,
     names: &Names,
     line: &[u8],
 ) -> Result<Instance, NoMemory>
-    requires readable { IsReadable d.now }
-    requires known { (ts : List Token) × (k : IsKnownLine d.now names.now ts) × IsLine line.now ts }
-    ensures { IfOk result (λ i. (ts : List Token) → IsLine line.now ts → IsBoundLine d.now names.now ts i) }
+    requires readable { IsReadable rows.now }
+    requires known { (ts : List Token) × (k : IsKnownLine rows.now names.now ts) × IsLine line.now ts }
+    ensures { IfOk result (λ i. (ts : List Token) → IsLine line.now ts → IsBoundLine rows.now names.now ts i) }
 {
     let _ = (names.objects.len(), names.functions.len());
-    match find_row(d, line) {
+    match rows.find(line) {
         Some((row, values)) => {
             let binding = bind(alloc, names, values.as_slice())?;
             Ok(Instance { row, binding })

@@ -2,7 +2,7 @@
 use Rattle.std.proofs.Common.{◌≡◌, ℕ, List, [], ◌∷◌, ap, subst}
 use Rattle.std.specs.List.{AllZip}
 use Rattle.asm_token.specs.Tokens.{Token}
-use Rattle.asm_line.specs.Walk.{IsLine}
+use Rattle.asm_row.specs.Walk.{IsLine}
 use Rattle.asm_program.specs.TextLines.{Said, Says, lines_of}
 use Rattle.asm_program.specs.Law.{SaysOneThing}
 use Rattle.asm_program.specs.Rules.{AreSaid}

@@ -1,7 +1,7 @@
 -- What a line says.
 use Rattle.std.proofs.Common.{◌≡◌, ℕ, ◌<◌, ◌≤◌, true, false, List, [], length}
 use Rattle.asm_token.specs.Tokens.{Token}
-use Rattle.asm_line.specs.Walk.{IsLine, LineOf}
+use Rattle.asm_row.specs.Walk.{IsLine, LineOf}
 use Rattle.asm_program.specs.TextLines.{SayTokens, too_long, skipped, no_tokens, tokens, is_skipped, line_limit}
 use Rattle.asm_labels.specs.declared.saying.Said.{Said as Held}
 use Rattle.asm_labels.specs.declared.saying.Said.TheVariants as held

@@ -1,7 +1,7 @@
 -- What a name and the tokens behind it say.
 use Rattle.std.proofs.Common.{◌≡◌, ◌≢◌, ℕ, List, [], ◌∷◌, refl, sym, ap, subst, ◌∙◌}
 use Rattle.asm_token.specs.Tokens.{Token, Name, Number, Mark}
-use Rattle.asm_line.specs.Walk.{IsLine, IsToken}
+use Rattle.asm_row.specs.Walk.{IsLine, IsToken}
 use Rattle.asm_program.specs.TextLines.{Others, SayTokens}
 use Rattle.asm_labels.specs.declared.saying.Said.{Said as Held}
 use Rattle.asm_labels.specs.Seen.{seen}

@@ -1,7 +1,7 @@
 -- What the program holds of a line, as what the line says.
 use Rattle.std.specs.Prelude.{ℕ, ◌==◌, Bool, not, List}
 use Rattle.asm_token.specs.Tokens.{Token}
-use Rattle.asm_line.specs.Walk.{IsLine}
+use Rattle.asm_row.specs.Walk.{IsLine}
 use Rattle.asm_labels.specs.declared.saying.Label.{Label as HeldLabel}
 use Rattle.asm_labels.specs.declared.saying.Label.TheVariants as heldlabel
 use Rattle.asm_labels.specs.declared.saying.Said.{Said as Held}

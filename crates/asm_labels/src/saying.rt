@@ -3,11 +3,11 @@
 ghost use Rattle.std.specs.Prelude.{◌≡◌, ◌≢◌, [], ◌∷◌, IsTrue, List, MatchOption, false};
 ghost use Rattle.asm_token.specs.Tokens.{Token as SpecToken, Name as NameToken, Mark as MarkToken, Number as NumberToken};
 ghost use Rattle.asm_token.specs.Seen.{token_of};
-ghost use Rattle.asm_line.specs.Walk.{IsLine};
+ghost use Rattle.asm_row.specs.Walk.{IsLine};
 ghost use Rattle.asm_program.specs.TextLines.{IsLabel, Label as SpecLabel, SayTokens, SaysLabel, is_skipped, says_name, says_number};
 ghost use Rattle.asm_labels.specs.Seen.{IsSaid, label_of, seen};
 
-use asm_line::{Next, are_tokens, block_in, next_token, symbol_in};
+use asm_row::{Next, are_tokens, block_in, next_token, symbol_in};
 use asm_token::token::Token;
 
 /// A label. The name of an object or a function stands in the text.

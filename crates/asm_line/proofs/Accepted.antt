@@ -18,7 +18,7 @@ use Rattle.md_said.proofs.Lists.{Each, each_get}
 use Rattle.md_said.proofs.Whole.{said_sound}
 use Rattle.md_check.specs.Accepted.{IsWhole, Overlapping, normalised, normalised_row}
 use Rattle.md_check.specs.Checking.{IsChecked}
-use Rattle.asm_line.specs.Readable.{StandInOrder, HasNames, HaveNames, IsReadableRow, IsReadable}
+use Rattle.asm_row.specs.Readable.{StandInOrder, HasNames, HaveNames, IsReadableRow, IsReadable}
 use Rattle.asm_line.proofs.Classes.{rows_named}
 
 -- an item of a mapped list comes from one of the list

@@ -14,7 +14,7 @@ use Rattle.md_text.specs.Forms.{Form, Version, MachineName, WordBits, MemorySize
 use Rattle.md_text.specs.Declarations.{Declaration, Class, Alternative, registers_in, classes_in, mode_names, register_bit, register_bits, class_bits}
 use Rattle.md_text.specs.Expansion.{Shown, taken_by, Filling, shown, filling_of, itself, alternatives_of, fillings, choices, hole_of, holes_in, replaced, Expanded, expanded, expansions_of, expansions}
 use Rattle.md_said.proofs.Lists.{Each, each_append, each_map, each_flat_map}
-use Rattle.asm_line.specs.Readable.{HasNames}
+use Rattle.asm_row.specs.Readable.{HasNames}
 
 -- the registers of these bits are declared
 abbrev AreDeclared : List Register → ℕ → Type 0

@@ -7,11 +7,11 @@ use Rattle.rtl_tree.specs.declared.cells.Lab.TheVariants.{Block as BlockLabel, F
 use Rattle.rtl_tree.specs.declared.c_names.Names.{Names}
 use Rattle.md_rows.specs.declared.instance.Bound.{Bound}
 use Rattle.md_rows.specs.declared.instance.Bound.TheVariants.{Reg, Num as NumBound, Sym, Label}
-use Rattle.asm_line.specs.Reading.{Value, Object, Function, AreValues, value_in}
-use Rattle.asm_line.specs.declared.values.Value.{Value as Held}
-use Rattle.asm_line.specs.Found.{value_of, values_of}
+use Rattle.asm_row.specs.Reading.{Value, Object, Function, AreValues, value_in}
+use Rattle.asm_row.specs.declared.values.Value.{Value as Held}
+use Rattle.asm_row.specs.Found.{value_of, values_of}
 use Rattle.asm_line.specs.Answers.{Grows, IsExtension, AddsAll, Adds}
-use Rattle.asm_line.proofs.HoleValues.{Mapped, mapped, no_item}
+use Rattle.asm_row.proofs.HoleValues.{Mapped, mapped, no_item}
 
 pub grows_none : (P : List ℕ → Type 0) (xs : List (List ℕ)) → Grows P xs xs
 grows_none P xs = record { more = []; are = sym (append-nil xs); each = All-nil P }

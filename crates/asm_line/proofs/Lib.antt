@@ -1,16 +1,5 @@
 pub mod Classes
 pub mod Accepted
-pub mod HoleValues
-pub mod Texts
-pub mod Unique
 pub mod Printed
-pub mod Walking
-pub mod Words
-pub mod Pieces
-pub mod Different
-pub mod Made
-pub mod Among
-pub mod Rows
 pub mod Growing
-pub mod FoundOnce
 pub mod LineRead

@@ -14,15 +14,15 @@ use Rattle.md_rows.specs.declared.row.Piece.TheVariants.{Name, Num, Byte, Hole a
 use Rattle.md_rows.specs.declared.instance.Bound.{Bound}
 use Rattle.md_rows.specs.declared.instance.Bound.TheVariants.{Reg, Num as NumBound, Sym, Label}
 use Rattle.md_rows.specs.Instances.{symbol_token}
-use Rattle.asm_line.specs.Line.{HasNumber}
-use Rattle.asm_line.specs.Readable.{IsReadable}
-use Rattle.asm_line.specs.Reading.{Value, Register_, Number, Object, Block, Function, Reads, ReadsText, AreValues, value_in}
-use Rattle.asm_line.specs.Found.{IsFound, NoRow}
-use Rattle.asm_line.specs.Walk.{IsLine, LineOf}
+use Rattle.asm_row.specs.Line.{HasNumber}
+use Rattle.asm_row.specs.Readable.{IsReadable}
+use Rattle.asm_row.specs.Reading.{Value, Register_, Number, Object, Block, Function, Reads, ReadsText, AreValues, value_in}
+use Rattle.asm_row.specs.Found.{IsFound, NoRow}
+use Rattle.asm_row.specs.Walk.{IsLine, LineOf}
 use Rattle.asm_line.specs.Answers.{AddsAll, HasNameValue, IsExtension, IsNamedBy, IsRead, HasInstance}
-use Rattle.asm_line.proofs.HoleValues.{same_item}
+use Rattle.asm_row.proofs.HoleValues.{same_item}
 use Rattle.asm_line.proofs.Growing.{extends_as}
-use Rattle.asm_line.proofs.Made.{made, none}
+use Rattle.asm_row.proofs.Made.{made, none}
 
 -- what the tokens of a line say of a value in it
 abbrev pub IsNamedIn : List Token → Value → Type 0

@@ -27,12 +27,12 @@ use Rattle.md_rows.specs.Lines.{longest_name, piece_bytes, is_word as is_word_pi
 use Rattle.md_rows.specs.Instances.{register_name, hole_token, piece_token, symbol_token, AllFit, general_set, HasTokens, IsInstance}
 use Rattle.asm_line.specs.declared.writing.Before.{Before}
 use Rattle.asm_line.specs.declared.writing.Before.TheVariants.{Start, FirstToken, Word, Mark}
-use Rattle.asm_line.specs.Line.{naming_of, IsNamed, IsWritten}
-use Rattle.asm_line.specs.Readable.{StandInOrder, HasNames, HaveNames, IsReadable}
+use Rattle.asm_row.specs.Line.{naming_of, IsNamed, IsWritten}
+use Rattle.asm_row.specs.Readable.{StandInOrder, HasNames, HaveNames, IsReadable}
 use Rattle.asm_line.specs.Shown.{SomeFits, IsReady, IsRowWritten, token_in, tokens_in, gap_bytes, before_next, bytes_left}
 use Rattle.asm_line.specs.Spacing.{separator, next_before, line_from}
-use Rattle.asm_line.proofs.HoleValues.{no_item, same_item}
-use Rattle.asm_line.proofs.Texts.{first_left, rest_left}
+use Rattle.asm_row.proofs.HoleValues.{no_item, same_item}
+use Rattle.asm_row.proofs.Texts.{first_left, rest_left}
 
 -- each piece has a token
 

@@ -8,10 +8,10 @@ use Rattle.md_rows.specs.declared.instance.Instance.{Instance}
 use Rattle.md_rows.specs.Instances.{symbol_token}
 use Rattle.asm_line.specs.declared.lines.LineFault.{LineFault}
 use Rattle.asm_line.specs.declared.lines.LineFault.TheVariants as fault
-use Rattle.asm_line.specs.Line.{IsLineOf, HasNumber}
-use Rattle.asm_line.specs.Reading.{Value, Object, Function}
-use Rattle.asm_line.specs.Walk.{IsLine, LineOf}
-use Rattle.asm_line.specs.Found.{IsFound}
+use Rattle.asm_row.specs.Line.{IsLineOf, HasNumber}
+use Rattle.asm_row.specs.Reading.{Value, Object, Function}
+use Rattle.asm_row.specs.Walk.{IsLine, LineOf}
+use Rattle.asm_row.specs.Found.{IsFound}
 
 -- a list of names with others behind it, each as P says
 pub record Grows (P : List ℕ → Type 0) (old new : List (List ℕ)) : Type 0 where

@@ -6,8 +6,8 @@ use Rattle.rtl_tree.specs.declared.c_names.Names.{Names}
 use Rattle.md_rows.specs.declared.description.RawDescription.{RawDescription}
 use Rattle.md_rows.specs.declared.instance.Instance.{Instance}
 use Rattle.md_check.specs.Checking.{IsChecked}
-use Rattle.asm_line.specs.Line.{IsLineOf, HasNumber}
-use Rattle.asm_line.specs.Readable.{IsReadable}
+use Rattle.asm_row.specs.Line.{IsLineOf, HasNumber}
+use Rattle.asm_row.specs.Readable.{IsReadable}
 
 -- the lines of an accepted description can be read
 abbrev pub CheckedIsReadable : Type 0

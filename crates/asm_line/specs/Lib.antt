@@ -1,9 +1,4 @@
-pub mod Line
-pub mod Readable
-pub mod Reading
 pub mod Answers
 pub mod Spacing
 pub mod Shown
 pub mod Law
-pub mod Walk
-pub mod Found

@@ -19,8 +19,8 @@ use Rattle.asm_line.specs.declared.shown.Shown.{Shown}
 use Rattle.asm_line.specs.declared.shown.Shown.TheVariants as shown
 use Rattle.asm_line.specs.declared.writing.Before.{Before}
 use Rattle.asm_line.specs.declared.writing.Before.TheVariants.{Start, FirstToken, Word, Mark as MarkBefore}
-use Rattle.asm_line.specs.Line.{naming_of, IsNamed}
-use Rattle.asm_line.specs.Readable.{IsReadableRow}
+use Rattle.asm_row.specs.Line.{naming_of, IsNamed}
+use Rattle.asm_row.specs.Readable.{IsReadableRow}
 
 abbrev pub token_of : Shown → Token
 token_of (shown.Name bytes) = Name bytes.now

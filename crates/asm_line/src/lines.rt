@@ -2,15 +2,13 @@
 
 ghost use Rattle.std.specs.Prelude.{◌≡◌, ◌≤◌, ◌<◌, ◌+◌, All, IfOk, OnErr, OnOk, Some, length, slice_get};
 ghost use Rattle.rtl_tree.specs.Names.{AreNames, IsName};
-ghost use Rattle.asm_line.specs.Reading.{AreValues, value_in};
-ghost use Rattle.asm_line.specs.Readable.{IsReadable};
-ghost use Rattle.asm_line.specs.Found.{value_of, values_of};
+ghost use Rattle.asm_row.specs.Reading.{AreValues, value_in};
+ghost use Rattle.asm_row.specs.Readable.{IsReadable};
+ghost use Rattle.asm_row.specs.Found.{value_of, values_of};
 ghost use Rattle.asm_line.specs.Answers.{Adds, AddsAll, Grows, HasNameValue, HasRoom, IsLineRead};
 
 use crate::law::checked_is_readable;
-use crate::reading::find_row;
-use crate::tokens::are_tokens;
-use crate::values::Value;
+use asm_row::{Value, are_tokens, find_row};
 use md_check::Checked;
 use md_rows::{Binding, Bound, Instance, RawDescription};
 use rtl_tree::{Cell, Lab, Name, NameList, Names, NoMemory};

@@ -1,11 +1,11 @@
 //! The writing of a line.
 
-ghost use Rattle.std.specs.Prelude.{◌≡◌, ◌≤◌, All, IsTrue, Some, [], is_some, slice_get};
+ghost use Rattle.std.specs.Prelude.{◌≡◌, ◌≤◌, All, IsTrue, [], is_some};
 ghost use Rattle.rtl_word.specs.Words.{IsWordSize};
 ghost use Rattle.md_rows.specs.declared.row.Row.{Row as Line};
 ghost use Rattle.md_rows.specs.Lines.{longest_line};
 ghost use Rattle.md_rows.specs.Instances.{AllFit, IsInstance, general_set};
-ghost use Rattle.asm_line.specs.Line.{IsNamed, IsWritten};
+ghost use Rattle.asm_row.specs.Line.{IsNamed, IsWritten};
 ghost use Rattle.asm_line.specs.Shown.{IsReady, IsRowWritten, token_in, tokens_in};
 ghost use Rattle.asm_line.specs.Spacing.{line_from};
 
@@ -13,6 +13,7 @@ use crate::law::checked_is_readable;
 use crate::line::LineBuf;
 use crate::shown::of_piece;
 use crate::writing::{Before, push_token};
+use asm_row::row_at;
 use md_check::Checked;
 use md_rows::{Bound, Instance, RawDescription, Row};
 use rtl_tree::Names;
@@ -38,16 +39,6 @@ fn print_row(out: &mut LineBuf, d: &RawDescription, names: &Names, row: &Row, bi
     ensures { IsRowWritten d.now names.now row.now binding.now out.new }
 {
     push_tokens(out, d, names, row, binding);
-}
-
-pub(crate) fn row_at(d: &RawDescription, place: u16) -> &Row
-    requires { IsTrue (is_some (slice_get d.now.rows place)) }
-    ensures { slice_get d.now.rows place ≡ Some result.now }
-{
-    match d.rows.as_slice().get(usize::from(place)) {
-        Some(row) => row,
-        None => unreachable!(),
-    }
 }
 
 /// Writes the line of an instance of the description, in place of what the line was. Takes no memory.

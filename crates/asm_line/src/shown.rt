@@ -7,9 +7,10 @@ ghost use Rattle.asm_token.specs.Line.{is_word};
 ghost use Rattle.md_rows.specs.Fits.{fits, is_in, printed};
 ghost use Rattle.md_rows.specs.Lines.{hole_bytes, is_word as is_word_piece, longest_name, piece_bytes};
 ghost use Rattle.md_rows.specs.Instances.{AllFit, block_token, general_set, hole_token, register_name, symbol_token};
-ghost use Rattle.asm_line.specs.Line.{naming_of};
+ghost use Rattle.asm_row.specs.Line.{naming_of};
 ghost use Rattle.asm_line.specs.Shown.{SomeFits, label_token, token_in, token_of};
 
+use asm_row::register_name;
 use md_rows::{Bound, Hole, Piece, RawDescription, Register, Row, number_of_word};
 use rtl_tree::{Cell, Lab, NameList, Names};
 
@@ -23,19 +24,6 @@ pub(crate) enum Shown<'a> {
     Block(u32),
     Number(i64),
     Mark(u8),
-}
-
-/// The name of the first register of a number.
-pub(crate) fn register_name(registers: &[Register], number: u8) -> Option<&[u8]>
-    ensures found { IfSome result (λ name. register_name registers.now number ≡ Some name.now) }
-    ensures none { IfNone result (register_name registers.now number ≡ None) }
-{
-    for register in registers {
-        if register.number == number {
-            return Some(register.name.as_slice());
-        }
-    }
-    None
 }
 
 fn name_at(names: &NameList, place: u16) -> Option<&[u8]>

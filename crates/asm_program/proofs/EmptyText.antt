@@ -6,7 +6,7 @@ use Rattle.std.proofs.lemmas.List.Elements.{All-nil, All-cons}
 use Rattle.asm_token.specs.Tokens.{Name, IsToken, is_name_byte, is_blank_or_tab}
 use Rattle.asm_token.specs.Law.{LineReadsBack}
 use Rattle.md_rows.specs.declared.description.RawDescription.{RawDescription}
-use Rattle.asm_line.specs.Walk.{IsLine}
+use Rattle.asm_row.specs.Walk.{IsLine}
 use Rattle.asm_program.specs.declared.rules.Rule.TheVariants.{Misplaced}
 use Rattle.asm_program.specs.TextLines.{Label, TextBegins, Unreadable, Labelled, Says, tokens}
 use Rattle.asm_program.specs.Places.{start, after}

@@ -7,11 +7,11 @@ use Rattle.md_rows.specs.declared.description.RawDescription.{RawDescription}
 use Rattle.md_rows.specs.declared.row.Row.{Row}
 use Rattle.md_rows.specs.declared.instance.Bound.{Bound}
 use Rattle.md_rows.specs.declared.instance.Instance.{Instance}
-use Rattle.asm_line.specs.Readable.{IsReadable}
-use Rattle.asm_line.specs.Reading.{Value, ReadsText, AreValues, value_in}
-use Rattle.asm_line.proofs.HoleValues.{same_item}
-use Rattle.asm_line.proofs.Texts.{text_once}
-use Rattle.asm_line.proofs.Unique.{line_reads, same_place}
+use Rattle.asm_row.specs.Readable.{IsReadable}
+use Rattle.asm_row.specs.Reading.{Value, ReadsText, AreValues, value_in}
+use Rattle.asm_row.proofs.HoleValues.{same_item}
+use Rattle.asm_row.proofs.Texts.{text_once}
+use Rattle.asm_row.proofs.Unique.{line_reads, same_place}
 use Rattle.asm_program.specs.TextLines.{Said, lines_of}
 use Rattle.asm_program.specs.Programs.{Assembled, instructions, IsLineIn, IsProgramOf, IsText, SameInstance, SameProgram}
 use Rattle.asm_program.specs.Law.{SaysOneThing, HaveNames}

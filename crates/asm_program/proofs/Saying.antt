@@ -5,7 +5,7 @@ use Rattle.std.specs.List.{AllZip}
 use Rattle.std.proofs.lemmas.Fmt.{decimal_injective}
 use Rattle.asm_token.specs.Tokens.{Token, Name, Number, Mark, IsGap, is_blank_or_tab}
 use Rattle.asm_token.specs.Law.{AtMostOneSpelled}
-use Rattle.asm_line.specs.Walk.{IsLine}
+use Rattle.asm_row.specs.Walk.{IsLine}
 use Rattle.asm_program.specs.TextLines.{Label, Block, Symbol, IsLabel, Said, Labelled, Mislabelled, Others, SaysLabel, SayTokens, Says, too_long, skipped, no_tokens, tokens, is_skipped}
 
 not_both : (b : Bool) → b ≡ true → b ≡ false → ⊥

@@ -2,7 +2,7 @@
 use Rattle.std.specs.Prelude.{◌≡◌, ℕ, ◌-◌, ◌≤◌, List, [], codes}
 use Rattle.rtl_tree.specs.Names.{AreNames}
 use Rattle.rtl_tree.specs.declared.c_names.Names.{Names}
-use Rattle.asm_line.specs.Readable.{IsReadable}
+use Rattle.asm_row.specs.Readable.{IsReadable}
 use Rattle.md_rows.specs.declared.description.RawDescription.{RawDescription}
 use Rattle.asm_program.specs.declared.rules.Rule.{Rule}
 use Rattle.asm_program.specs.declared.rules.Rule.TheVariants.{Misplaced}

@@ -10,8 +10,8 @@ use Rattle.md_rows.specs.declared.description.RawDescription.{RawDescription}
 use Rattle.md_rows.specs.declared.instance.Bound.{Bound}
 use Rattle.md_rows.specs.declared.instance.Bound.TheVariants.{Label as LabelBound}
 use Rattle.md_rows.specs.declared.instance.Instance.{Instance}
-use Rattle.asm_line.specs.Line.{IsLineOf, IsNamed, HasNumber}
-use Rattle.asm_line.specs.Reading.{value_in}
+use Rattle.asm_row.specs.Line.{IsLineOf, IsNamed, HasNumber}
+use Rattle.asm_row.specs.Reading.{value_in}
 use Rattle.asm_program.specs.TextLines.{Label, Block, Symbol, Said, DataBegins, Labelled, Word, Byte, Space, Others}
 use Rattle.asm_program.specs.Places.{aligned, magnitude}
 use Rattle.asm_program.specs.Rules.{AreSaid, IsSound, word_bytes}

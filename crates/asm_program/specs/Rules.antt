@@ -3,8 +3,8 @@ use Rattle.std.specs.Prelude.{◌≡◌, ◌≢◌, ℕ, suc, ◌+◌, ◌-◌, 
 use Rattle.std.specs.List.{list_all, AllZip}
 use Rattle.asm_token.specs.Tokens.{Token, Name}
 use Rattle.md_rows.specs.declared.description.RawDescription.{RawDescription}
-use Rattle.asm_line.specs.Reading.{Value, Object, Block as BlockValue, Function}
-use Rattle.asm_line.specs.Found.{IsFound}
+use Rattle.asm_row.specs.Reading.{Value, Object, Block as BlockValue, Function}
+use Rattle.asm_row.specs.Found.{IsFound}
 use Rattle.asm_program.specs.TextLines.{Label, Block, Symbol, Said, Nothing, Unreadable, TextBegins, DataBegins, Labelled, Word, Byte, Space, Others, Says, lines_of, is_skipped, line_limit}
 use Rattle.asm_program.specs.declared.places.Part.{Part}
 use Rattle.asm_program.specs.declared.places.Part.TheVariants.{Outside, InText, InData}

@@ -2,8 +2,8 @@
 use Rattle.std.specs.Prelude.{◌≡◌, ℕ, ◌<◌, ◌≤◌, ◌==◌, ℤ, Bool, true, false, if◌then◌else◌, MatchBool, List, [], ◌∷◌, length, codes}
 use Rattle.std.specs.Str.{bytes_eq}
 use Rattle.asm_token.specs.Tokens.{Token, Name, Number, Mark, is_blank_or_tab}
-use Rattle.asm_line.specs.Found.{IsBlockName, IsSymbolOf}
-use Rattle.asm_line.specs.Walk.{IsLine, LineOf}
+use Rattle.asm_row.specs.Found.{IsBlockName, IsSymbolOf}
+use Rattle.asm_row.specs.Walk.{IsLine, LineOf}
 
 -- a byte before the first of some lines
 abbrev pub onto : ℕ → List (List ℕ) → List (List ℕ)

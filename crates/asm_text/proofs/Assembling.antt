@@ -13,8 +13,8 @@ use Rattle.md_rows.specs.declared.instance.Bound.{Bound}
 use Rattle.md_rows.specs.declared.instance.Bound.TheVariants.{Reg, Num as NumBound, Sym, Label as LabelBound}
 use Rattle.md_rows.specs.declared.instance.Instance.{Instance}
 use Rattle.asm_token.specs.Tokens.{Token}
-use Rattle.asm_line.specs.Line.{IsNamed}
-use Rattle.asm_line.specs.Reading.{Value, Object, Function, AreValues, value_in}
+use Rattle.asm_row.specs.Line.{IsNamed}
+use Rattle.asm_row.specs.Reading.{Value, Object, Function, AreValues, value_in}
 use Rattle.asm_program.specs.TextLines.{Label, Block, Symbol, Said, Nothing, Unreadable, TextBegins, DataBegins, Labelled, Mislabelled, Word, Byte, Space, Others}
 use Rattle.asm_program.specs.Programs.{HasFunction, IsLab, instructions, text_labels}
 use Rattle.asm_jumps.specs.LabelPlaces.{IsAt}

@@ -15,9 +15,9 @@ use Rattle.md_rows.specs.declared.instance.Bound.{Bound}
 use Rattle.md_rows.specs.declared.instance.Bound.TheVariants.{Reg, Num as NumBound, Sym, Label as LabelBound}
 use Rattle.md_rows.specs.declared.instance.Instance.{Instance}
 use Rattle.asm_token.specs.Tokens.{Token}
-use Rattle.asm_line.specs.Readable.{IsReadable}
-use Rattle.asm_line.specs.Reading.{Value, Object, Function, AreValues, value_in, Block as BlockValue}
-use Rattle.asm_line.proofs.FoundOnce.{found_once}
+use Rattle.asm_row.specs.Readable.{IsReadable}
+use Rattle.asm_row.specs.Reading.{Value, Object, Function, AreValues, value_in, Block as BlockValue}
+use Rattle.asm_row.proofs.FoundOnce.{found_once}
 use Rattle.asm_program.specs.declared.places.Part.{Part}
 use Rattle.asm_program.specs.declared.places.Part.TheVariants.{Outside, InText, InData}
 use Rattle.asm_program.specs.declared.places.Place.{Place}

@@ -1,7 +1,7 @@
 //! The reading of whole texts.
 
 ghost use Rattle.std.specs.Prelude.{◌≡◌, IfErr, IfOk};
-ghost use Rattle.asm_line.specs.Readable.{IsReadable};
+ghost use Rattle.asm_row.specs.Readable.{IsReadable};
 ghost use Rattle.asm_program.specs.Programs.{IsText};
 ghost use Rattle.asm_program.specs.Rules.{number_of};
 ghost use Rattle.asm_text.specs.Read.{IsFaultAt, IsFaultOf, reason_at};
@@ -10,6 +10,7 @@ use crate::program::program_of;
 use asm_faults::fault_of;
 use asm_line::law::checked_is_readable;
 use asm_program::{Program, Rule};
+use asm_row::RowIndex;
 use md_check::Checked;
 use md_rows::RawDescription;
 use rtl_tree::NoMemory;
@@ -59,19 +60,37 @@ fn fault_at(line: usize, rule: Rule) -> AsmFault
     }
 }
 
+// The same by an index of the rows.
+fn read_by(
+    alloc: Global,
+    d: &RawDescription,
+    rows: &RowIndex<'_>,
+    text: &[u8],
+) -> Result<Program, AsmFault>
+    requires readable { IsReadable d.now }
+    requires rows { rows.now ≡ d.now }
+    ensures text { IfOk result (λ p. IsText d.now text.now p) }
+    ensures bad { IfErr result (λ f. IsFaultOf d.now text.now f) }
+{
+    match fault_of(alloc, d, rows, text) {
+        Err(NoMemory) => Err(AsmFault::NoMemory),
+        Ok(Some((line, rule))) => Err(fault_at(line, rule)),
+        Ok(None) => match program_of(alloc, d, rows, text) {
+            Ok(program) => Ok(program),
+            Err(NoMemory) => Err(AsmFault::NoMemory),
+        },
+    }
+}
+
 // The same for a description of which only what reading rests on is known.
 fn read_raw(alloc: Global, d: &RawDescription, text: &[u8]) -> Result<Program, AsmFault>
     requires readable { IsReadable d.now }
     ensures text { IfOk result (λ p. IsText d.now text.now p) }
     ensures bad { IfErr result (λ f. IsFaultOf d.now text.now f) }
 {
-    match fault_of(alloc, d, text) {
+    match RowIndex::new(alloc, d) {
+        Ok(rows) => read_by(alloc, d, &rows, text),
         Err(NoMemory) => Err(AsmFault::NoMemory),
-        Ok(Some((line, rule))) => Err(fault_at(line, rule)),
-        Ok(None) => match program_of(alloc, d, text) {
-            Ok(program) => Ok(program),
-            Err(NoMemory) => Err(AsmFault::NoMemory),
-        },
     }
 }
 

@@ -1,66 +1,18 @@
 //! Trees as text, with brackets round each operation: `(a + (b * c))`. A parenthesis of the source
 //! is printed as `<a>`, a statement within another as `[a;]`, and a number that isn't decimal with `#`.
 
+use crate::operators::{binary, compound, step, unary};
 use crate::page::Page;
 use c_tree::syntax::{
-    Arithmetic, AssignOperator, BinaryOperator, Declaration, Expr, External, Initialiser, Item,
-    Parameter, Parameters, Return, Size, Start, Statement, StepOperator, Syntax, TypeWords,
-    UnaryOperator,
+    AssignOperator, Declaration, Expr, External, Initialiser, Item, Parameter, Parameters, Return,
+    Size, Start, Statement, Syntax, TypeWords,
 };
 use std::alloc::Global;
-
-fn binary(operator: BinaryOperator) -> &'static [u8] {
-    match operator {
-        BinaryOperator::LogicalOr => b" || ",
-        BinaryOperator::LogicalAnd => b" && ",
-        BinaryOperator::Or => b" | ",
-        BinaryOperator::Xor => b" ^ ",
-        BinaryOperator::And => b" & ",
-        BinaryOperator::Equal => b" == ",
-        BinaryOperator::NotEqual => b" != ",
-        BinaryOperator::Less => b" < ",
-        BinaryOperator::Greater => b" > ",
-        BinaryOperator::LessEqual => b" <= ",
-        BinaryOperator::GreaterEqual => b" >= ",
-        BinaryOperator::ShiftLeft => b" << ",
-        BinaryOperator::ShiftRight => b" >> ",
-        BinaryOperator::Add => b" + ",
-        BinaryOperator::Subtract => b" - ",
-        BinaryOperator::Multiply => b" * ",
-        BinaryOperator::Divide => b" / ",
-        BinaryOperator::Remainder => b" % ",
-    }
-}
 
 fn assign(operator: AssignOperator) -> &'static [u8] {
     match operator {
         AssignOperator::Plain => b" = ",
-        AssignOperator::Compound(Arithmetic::Add) => b" += ",
-        AssignOperator::Compound(Arithmetic::Subtract) => b" -= ",
-        AssignOperator::Compound(Arithmetic::Multiply) => b" *= ",
-        AssignOperator::Compound(Arithmetic::Divide) => b" /= ",
-        AssignOperator::Compound(Arithmetic::Remainder) => b" %= ",
-        AssignOperator::Compound(Arithmetic::And) => b" &= ",
-        AssignOperator::Compound(Arithmetic::Xor) => b" ^= ",
-        AssignOperator::Compound(Arithmetic::Or) => b" |= ",
-        AssignOperator::Compound(Arithmetic::ShiftLeft) => b" <<= ",
-        AssignOperator::Compound(Arithmetic::ShiftRight) => b" >>= ",
-    }
-}
-
-fn unary(operator: UnaryOperator) -> &'static [u8] {
-    match operator {
-        UnaryOperator::Plus => b"+",
-        UnaryOperator::Minus => b"-",
-        UnaryOperator::Complement => b"~",
-        UnaryOperator::Not => b"!",
-    }
-}
-
-fn step(operator: StepOperator) -> &'static [u8] {
-    match operator {
-        StepOperator::Increment => b"++",
-        StepOperator::Decrement => b"--",
+        AssignOperator::Compound(o) => compound(o),
     }
 }
 

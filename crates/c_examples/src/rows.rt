@@ -1,6 +1,7 @@
 //! Tables of examples.
 
 use std::alloc::Global;
+#[cfg(test)]
 use std::process::Abort;
 
 /// A row of a table.
@@ -10,6 +11,7 @@ pub trait Row {
 }
 
 /// Ends the test at the first row that doesn't hold.
+#[cfg(test)]
 pub fn check<R: Row>(rt: &impl Abort, alloc: Global, table: &str, rows: &[R]) {
     for (place, row) in rows.iter().enumerate() {
         assert!(rt; row.holds(alloc), "row {place} of {table}");

@@ -16,7 +16,7 @@ pub fn tree_of(alloc: Global, source: &[u8]) -> Result<Syntax, CFault> {
 pub type Told = Option<(u32, u32, u8)>;
 
 /// None of the rules of these examples gives a detail.
-pub fn place_of(reason: &Reason) -> Told {
+fn place_of(reason: &Reason) -> Told {
     if reason.detail == 0 {
         Some((reason.line, reason.column, reason.rule))
     } else {

@@ -12,5 +12,7 @@ mod running;
 mod stepping;
 mod stopping;
 
+pub use making::make_line;
 pub use running::{Running, Stop};
 pub use stepping::{run, step};
+pub use stopping::trapped;

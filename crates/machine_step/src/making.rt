@@ -165,8 +165,8 @@ fn make_alone<W: Word, K: Sink>(moves: &[Assign], m: &mut Running, sink: &mut K)
     }
 }
 
-/// Makes the instruction that is next.
-fn make_line<W: Word, S: Source, K: Sink>(
+/// Makes the instruction that is next, by its transfer.
+pub fn make_line<W: Word, S: Source, K: Sink>(
     moves: &[Assign],
     m: &mut Running,
     source: &mut S,

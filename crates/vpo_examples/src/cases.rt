@@ -63,7 +63,7 @@ pub const COMMANDS: [Case; 4] = [
 ];
 
 /// Words that have no plain form.
-pub const BAD_WORDS: [&[&str]; 12] = [
+pub const BAD_WORDS: [&[&str]; 22] = [
     &[],
     &["cc"],
     &["cc", "d"],
@@ -76,4 +76,14 @@ pub const BAD_WORDS: [&[&str]; 12] = [
     &["check", "d", "s"],
     &["show", "vax"],
     &["help"],
+    &["run", "d"],
+    &["run", "--steps", "0", "a", "b"],
+    &["run", "--steps", "07", "a", "b"],
+    &["run", "--steps", "+7", "a", "b"],
+    &["run", "--steps", "", "a", "b"],
+    &["run", "--steps", "1000000000000000001", "a", "b"],
+    &["run", "--steps", "18446744073709551617", "a", "b"],
+    &["run", "--step", "7", "a", "b"],
+    &["run", "a", "b", "--steps", "7"],
+    &["cc", "--steps", "7", "a", "b"],
 ];

@@ -5,4 +5,16 @@
 #[cfg(test)]
 mod cases;
 #[cfg(test)]
+mod mips_runs;
+#[cfg(test)]
+mod pdp11_runs;
+#[cfg(test)]
+mod run_cases;
+#[cfg(test)]
+mod run_tests;
+#[cfg(test)]
+mod seen;
+#[cfg(test)]
 mod tests;
+#[cfg(test)]
+mod uno_runs;

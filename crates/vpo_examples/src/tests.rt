@@ -1,42 +1,9 @@
-ghost use Rattle.std.specs.Prelude.{◌<◌};
-
 use crate::cases::{BAD_WORDS, COMMANDS, Case, HELLO, TINY};
+use crate::seen::{Seen, file, owned, sink};
 use std::alloc::{AllocError, Global};
 use std::test::Fail;
-use vp_io::{MemFile, MemFiles, MemSink, Outcome, SafeSource, Which};
+use vp_io::{MemFiles, MemSink, Outcome, SafeSource, Which};
 use vpo_top::{MIPS, PDP11, Request, WordsFault, read_words, vpo};
-
-#[derive(Drop)]
-struct Seen {
-    outcome: Outcome,
-    output: MemSink,
-    errors: MemSink,
-}
-
-fn owned(alloc: Global, words: &[&str]) -> Result<Vec<String>, AllocError> {
-    let mut all = Vec::new(alloc);
-    for word in words {
-        all.push(word.to_string(alloc)?)?;
-    }
-    Ok(all)
-}
-
-/// A file, which is absent where there are no bytes.
-fn file(alloc: Global, name: &str, bytes: Option<&[u8]>) -> Result<MemFile, AllocError> {
-    Ok(MemFile {
-        name: name.as_bytes().to_vec(alloc)?,
-        bytes: bytes.unwrap_or(b"").to_vec(alloc)?,
-        absent: bytes.is_none(),
-        faults: 0,
-    })
-}
-
-/// A sink that takes so many bytes a call, and fails at the calls of these numbers.
-fn sink(alloc: Global, piece: usize, failing: &[u64]) -> Result<MemSink, AllocError>
-    requires { 0 < piece }
-{
-    Ok(MemSink::new(vec![in alloc; 0; 8192]?, piece, failing.to_vec(alloc)?))
-}
 
 /// What the words do over a description `d` and a source `s`.
 fn run_to(
@@ -138,6 +105,26 @@ fn words_are_read(rt: HostRuntime) -> Result<(), Fail> {
     assert!(rt; matches!(read_words(alloc, &words), Ok(Request::Show { which: 1 })));
     let words = owned(alloc, &["check", "d"])?;
     assert!(rt; matches!(read_words(alloc, &words), Ok(Request::Check { .. })));
+    let words = owned(alloc, &["run", "d", "a"])?;
+    assert!(rt;
+        matches!(
+            read_words(alloc, &words),
+            Ok(Request::Run {
+                steps: 1_000_000_000,
+                ..
+            })
+        )
+    );
+    let words = owned(alloc, &["run", "--steps", "1000000000000000000", "d", "a"])?;
+    assert!(rt;
+        matches!(
+            read_words(alloc, &words),
+            Ok(Request::Run {
+                steps: 1_000_000_000_000_000_000,
+                ..
+            })
+        )
+    );
     let words = owned(alloc, &["show"])?;
     assert!(rt; matches!(read_words(alloc, &words), Err(WordsFault::BadWords)));
     Ok(())

@@ -4,13 +4,14 @@ use Rattle.vp_io.specs.declared.answers.Which.TheVariants.{Description, Text, As
 use Rattle.vp_io.specs.declared.answers.Outcome.{Outcome}
 use Rattle.vp_io.specs.declared.answers.Outcome.TheVariants.{BadWords, ReadFault, WriteFault}
 use Rattle.vpo_top.specs.Outside.{Outside}
-use Rattle.vpo_top.specs.Request.{Asked, name_asked, names_a_file, compilation}
-use Rattle.vpo_top.specs.Request.Asked.{Check, Cc}
+use Rattle.vpo_top.specs.Request.{Asked, name_asked, names_a_file, compilation, ReadsNoInput}
+use Rattle.vpo_top.specs.Request.Asked.{Check, Cc, Run}
 use Rattle.vpo_top.specs.Judgement.{IsOfCompilation, IsRefusal}
 use Rattle.vpo_top.specs.Commands.{IsOfCheck}
+use Rattle.vpo_top.specs.Running.{IsOfRun}
 use Rattle.vpo_top.specs.Messages.{IsReported}
-use Rattle.vpo_top.specs.Faults.{HasReadCause, HasWriteCause, HasCause, RoseByName, CountsOnlyAsked}
-use Rattle.vpo_top.specs.Answer.{IsAnswer, IsAnswered, IsCheck, IsCompilation}
+use Rattle.vpo_top.specs.Faults.{HasReadCause, HasFileCause, HasInputCause, HasWriteCause, HasCause, RoseByName, CountsOnlyAsked}
+use Rattle.vpo_top.specs.Answer.{IsAnswer, IsAnswered, IsCheck, IsCompilation, IsExecution}
 
 -- a fault has its cause, where the input has no name
 has_cause : {F S K E : Type 0} (wanted : Option Asked) (before now : Outside F S K E) (outcome : Outcome)
@@ -33,7 +34,7 @@ record IsDone {F S K E : Type 0} (request : Asked) (before now : Outside F S K E
   not_fetched : names_a_file (Some request) ≡ false → now.files ≡ before.files
   files_kept : now.files.told ≡ before.files.told
   untouched : IsRefusal outcome → now.output ≡ before.output
-  input_kept : now.input ≡ before.input
+  input_kept : ReadsNoInput (Some request) → now.input ≡ before.input
   reported : IsReported outcome before.errors now.errors
 
 answered : {F S K E : Type 0} (wanted : Option Asked) (request : Asked) (before now : Outside F S K E) (outcome told : Outcome)
@@ -49,7 +50,7 @@ answered wanted request before now outcome told is same done =
       not_fetched = done.not_fetched;
       files_kept = done.files_kept;
       untouched = done.untouched;
-      input_kept = λ _. done.input_kept;
+      input_kept = done.input_kept;
       reported = done.reported;
     }))
 
@@ -69,7 +70,7 @@ check_answered wanted desc before now outcome told is same answer read write fet
       not_fetched = λ unnamed. cc unnamed;
       files_kept = kept;
       untouched = untouched;
-      input_kept = input;
+      input_kept = λ _. input;
       reported = reported;
     })
 
@@ -96,6 +97,39 @@ compilation_answered wanted desc src before now outcome told is same answer read
       not_fetched = λ unnamed. cc unnamed;
       files_kept = kept;
       untouched = untouched;
-      input_kept = input;
+      input_kept = λ _. input;
+      reported = reported;
+    })
+
+-- a fault of a run has its cause
+run_cause : {F S K E : Type 0} (steps : ℕ) (desc asm : List ℕ) (before now : Outside F S K E) (outcome : Outcome)
+    → HasFileCause (Some (Run steps desc asm)) before.files.told before.files.faults now.files.faults outcome
+    → HasInputCause before.input.faults now.input.faults outcome → HasWriteCause before.output.faults now.output.faults outcome
+    → HasCause (Some (Run steps desc asm)) before now outcome
+run_cause steps desc asm before now WriteFault read input write = write
+run_cause steps desc asm before now (ReadFault Input) read input write = input
+run_cause steps desc asm before now (ReadFault Description) read input write = read
+run_cause steps desc asm before now (ReadFault Text) read input write = read
+run_cause steps desc asm before now (ReadFault Assembly) read input write = read
+run_cause steps desc asm before now outcome read input write = tt
+
+pub run_answered : {F S K E : Type 0} (wanted : Option Asked) (steps : ℕ) (desc asm : List ℕ) (before now : Outside F S K E) (outcome told : Outcome)
+    → wanted ≡ Some (Run steps desc asm) → told ≡ outcome
+    → IsExecution steps desc asm before.files before.input now.input before.output now.output outcome
+    → HasFileCause (Some (Run steps desc asm)) before.files.told before.files.faults now.files.faults outcome
+    → HasInputCause before.input.faults now.input.faults outcome → HasWriteCause before.output.faults now.output.faults outcome
+    → CountsOnlyAsked (Some (Run steps desc asm)) before.files.faults now.files.faults → now.files.told ≡ before.files.told
+    → (IsRefusal outcome → now.output ≡ before.output) → IsReported outcome before.errors now.errors
+    → IsAnswered wanted before now told
+run_answered wanted steps desc asm before now outcome told is same answer read input write fetched kept untouched reported =
+    answered wanted (Run steps desc asm) before now outcome told is same (record {
+      answer = answer;
+      other = λ bad. let P : Outcome → Type 0 = λ o. IsOfRun steps o in subst P bad answer.possible;
+      cause = run_cause steps desc asm before now outcome read input write;
+      fetched = fetched;
+      not_fetched = λ unnamed. cc unnamed;
+      files_kept = kept;
+      untouched = untouched;
+      input_kept = λ none. absurd none;
       reported = reported;
     })

@@ -1,11 +1,10 @@
 -- How the counts of files move by what is asked for.
-use Rattle.std.proofs.Common.{◌≡◌, ◌≢◌, ℕ, ◌≤◌, List, Some, refl, sym, subst, ap, ◌∙◌, arith, Bool, true, false, bytes_eq, Decides}
+use Rattle.std.proofs.Common.{◌≡◌, ◌≢◌, ℕ, ◌≤◌, List, Option, Some, refl, sym, subst, ap, ◌∙◌, arith, Bool, true, false, bytes_eq, Decides}
 use Rattle.std.proofs.lemmas.Bool.Decides.{not_from_Decides}
 use Rattle.std.proofs.lemmas.Slice.Eq.{bytes_eq-Decides}
 use Rattle.vp_io.specs.Files.{FaultCounts, CountsOnly}
-use Rattle.vp_io.specs.declared.answers.Which.TheVariants.{Description, Text}
-use Rattle.vpo_top.specs.Request.{compilation}
-use Rattle.vpo_top.specs.Request.Asked.{Check}
+use Rattle.vp_io.specs.declared.answers.Which.{Which}
+use Rattle.vpo_top.specs.Request.{Asked, name_asked}
 use Rattle.vpo_top.specs.Faults.{CountsOnlyAsked}
 
 -- no count has fallen
@@ -17,30 +16,23 @@ never_falls name before now counts other = by_case (bytes_eq other name) (bytes_
     by_case false d =
         let other_name : other ≢ name = not_from_Decides {P = other ≡ name} false d refl in omega (arith, counts.others other other_name)
 
--- the one file was fetched
-pub check_counted : (desc : List ℕ) (before now : FaultCounts) → CountsOnly desc before now → CountsOnlyAsked (Some (Check desc)) before now
-check_counted desc before now counts = record {
+-- one file that is asked for was fetched
+pub one_counted : (wanted : Option Asked) (which : Which) (name : List ℕ) (before now : FaultCounts)
+    → name_asked wanted which ≡ Some name → CountsOnly name before now → CountsOnlyAsked wanted before now
+one_counted wanted which name before now asked counts = record {
   total = counts.total;
-  of_name = never_falls desc before now counts;
-  others = λ other unasked. counts.others other (λ is. unasked Description (ap (λ name. Some name) (sym is)));
+  of_name = never_falls name before now counts;
+  others = λ other unasked. counts.others other (λ is. unasked which (asked ∙ ap (λ n. Some n) (sym is)));
 }
 
--- the description alone was fetched
-pub description_counted : (desc src : List ℕ) (before now : FaultCounts)
-    → CountsOnly desc before now → CountsOnlyAsked (compilation desc src) before now
-description_counted desc src before now counts = record {
-  total = counts.total;
-  of_name = never_falls desc before now counts;
-  others = λ other unasked. counts.others other (λ is. unasked Description (ap (λ name. Some name) (sym is)));
-}
-
--- and then the source
-pub both_counted : (desc src : List ℕ) (before mid now : FaultCounts)
-    → CountsOnly desc before mid → CountsOnly src mid now → CountsOnlyAsked (compilation desc src) before now
-both_counted desc src before mid now first then = record {
+-- and then another
+pub both_counted : (wanted : Option Asked) (which which' : Which) (name name' : List ℕ) (before mid now : FaultCounts)
+    → name_asked wanted which ≡ Some name → name_asked wanted which' ≡ Some name'
+    → CountsOnly name before mid → CountsOnly name' mid now → CountsOnlyAsked wanted before now
+both_counted wanted which which' name name' before mid now asked asked' first then = record {
   total = omega (arith, first.total, then.total);
-  of_name = λ name. omega (arith, never_falls desc before mid first name, never_falls src mid now then name);
+  of_name = λ other. omega (arith, never_falls name before mid first other, never_falls name' mid now then other);
   others = λ other unasked.
-      then.others other (λ is. unasked Text (ap (λ name. Some name) (sym is)))
-      ∙ first.others other (λ is. unasked Description (ap (λ name. Some name) (sym is)));
+      then.others other (λ is. unasked which' (asked' ∙ ap (λ n. Some n) (sym is)))
+      ∙ first.others other (λ is. unasked which (asked ∙ ap (λ n. Some n) (sym is)));
 }

@@ -1,16 +1,18 @@
 -- What the program owes for the words that it is given, over what lies outside before and after.
-use Rattle.std.specs.Prelude.{◌≡◌, ◌↔◌, ℕ, zero, suc, Bool, true, false, List, Option, Some, None, ⊤}
+use Rattle.std.specs.Prelude.{◌≡◌, ◌↔◌, ℕ, zero, suc, true, false, List, Option, Some, None}
 use Rattle.vp_io.specs.Files.{OfFile}
 use Rattle.vp_io.specs.declared.answers.Outcome.{Outcome}
 use Rattle.vp_io.specs.declared.answers.Outcome.TheVariants.{BadWords}
 use Rattle.shipped.specs.declared.Shipped.{Shipped}
 use Rattle.shipped.specs.declared.Shipped.TheVariants.{Pdp11, Mips}
-use Rattle.vpo_top.specs.Outside.{Outside, FilesSeen, SinkSeen}
+use Rattle.vpo_top.specs.Outside.{Outside, FilesSeen, InputSeen, SinkSeen}
 use Rattle.vpo_top.specs.Request.{Asked, names_a_file, ReadsNoInput}
-use Rattle.vpo_top.specs.Request.Asked.{Check, Show, Cc}
+use Rattle.vpo_top.specs.Request.Asked.{Check, Show, Cc, Run}
 use Rattle.vpo_top.specs.Judgement.{OfFiles, Judges, IsOfCompilation, IsRefusal}
 use Rattle.vpo_top.specs.Headline.{IsWritten}
 use Rattle.vpo_top.specs.Commands.{JudgesCheck, IsOfCheck, IsVerdictWritten, IsShown}
+use Rattle.asm_run.specs.Runs.{TakesSome}
+use Rattle.vpo_top.specs.Running.{IsRunOfFiles, JudgesRun, IsOfRun}
 use Rattle.vpo_top.specs.Faults.{HasCause, CountsOnlyAsked}
 use Rattle.vpo_top.specs.Messages.{IsReported}
 
@@ -32,6 +34,18 @@ pub record IsCompilation {F K : Type 0} (desc src : List ℕ) (files : FilesSeen
   -- where the files aren't told, no other outcome comes all the same
   pub possible : IsOfCompilation outcome
 
+-- run [--steps N] DESC ASM
+pub record IsExecution {F S K : Type 0} (steps : ℕ) (desc asm : List ℕ) (files : FilesSeen F) (before now : InputSeen S) (old new : SinkSeen K) (outcome : Outcome) : Type 0 where
+  -- outcome and output are those of the machine's run of the text's program, on all that the input had left
+  pub ran : OfFiles files.told desc asm (λ machine_text text. IsRunOfFiles machine_text text before.left steps old.written new.written outcome)
+  -- each outcome comes exactly where the files give cause for it
+  pub judged : OfFiles files.told desc asm (λ machine_text text. JudgesRun machine_text text outcome)
+  -- where the files aren't told, no other outcome comes all the same
+  pub possible : IsOfRun steps outcome
+  -- of the input some first bytes are taken, and none by a refusal
+  pub taken : TakesSome before.left now.left
+  pub unread : IsRefusal outcome → now ≡ before
+
 -- the machine of a number
 abbrev pub machine_of : ℕ → Shipped
 machine_of zero = Pdp11
@@ -42,6 +56,8 @@ abbrev pub IsAnswer : {F S K E : Type 0} → Asked → Outside F S K E → Outsi
 IsAnswer (Check desc) before now outcome = IsCheck desc before.files before.output now.output outcome
 IsAnswer (Show which) before now outcome = IsShown (machine_of which) before.output.written now.output.written outcome
 IsAnswer (Cc false false desc src) before now outcome = IsCompilation desc src before.files before.output now.output outcome
+IsAnswer (Run steps desc asm) before now outcome =
+    IsExecution steps desc asm before.files before.input now.input before.output now.output outcome
 -- no words ask for these so far
 IsAnswer (Cc true plain desc src) before now outcome = ⊥
 IsAnswer (Cc false true desc src) before now outcome = ⊥

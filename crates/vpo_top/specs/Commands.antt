@@ -7,6 +7,8 @@ use Rattle.vp_io.specs.declared.answers.Outcome.{Outcome}
 use Rattle.vp_io.specs.declared.answers.Outcome.TheVariants.{Done, NoMemory, FileTooLong, BadDescription, ReadFault, WriteFault}
 use Rattle.md_rows.specs.declared.description.RawDescription.{RawDescription}
 use Rattle.md_check.specs.Accepted.{IsAcceptedText, IsRefusedText}
+use Rattle.md_verdict.specs.declared.accepted.Accepted.{Accepted}
+use Rattle.md_verdict.specs.Verdict.{IsAcceptedAs}
 use Rattle.md_verdict.specs.Line.{verdict_line_of}
 use Rattle.shipped.specs.declared.Shipped.{Shipped}
 use Rattle.shipped.specs.Shipped.{text_of}
@@ -15,6 +17,10 @@ use Rattle.vpo_top.specs.Judgement.{byte_limit}
 -- the bytes are short enough, and a description that is accepted
 abbrev pub IsAcceptedMachine : List ℕ → Type 0
 IsAcceptedMachine text = (length text ≤ byte_limit) × ((d : RawDescription) × IsAcceptedText text d)
+
+-- the bytes are short enough, and accepted as this description
+abbrev pub IsMachineOf : List ℕ → Accepted → Type 0
+IsMachineOf text machine = (length text ≤ byte_limit) × IsAcceptedAs text machine
 
 -- where each outcome of a check comes, for what the file holds: but for want of memory and faults of the outside, just one fits
 abbrev pub JudgesCheck : List ℕ → Outcome → Type 0

@@ -19,6 +19,16 @@ abbrev pub HasReadCause : Option Asked → Told → FaultCounts → FaultCounts 
 HasReadCause wanted told before now (ReadFault which) = RoseByName (name_asked wanted which) told before now
 HasReadCause wanted told before now outcome = ⊤
 
+-- and a fault of the input only where its count rose
+abbrev pub HasInputCause : ℕ → ℕ → Outcome → Type 0
+HasInputCause before now (ReadFault Input) = Rose before now
+HasInputCause before now outcome = ⊤
+
+-- what is said of files alone
+abbrev pub HasFileCause : Option Asked → Told → FaultCounts → FaultCounts → Outcome → Type 0
+HasFileCause wanted told before now (ReadFault Input) = ⊤
+HasFileCause wanted told before now outcome = HasReadCause wanted told before now outcome
+
 -- a write fault comes only where the count of the output rose
 abbrev pub HasWriteCause : ℕ → ℕ → Outcome → Type 0
 HasWriteCause before now WriteFault = Rose before now

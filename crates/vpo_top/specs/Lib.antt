@@ -4,5 +4,7 @@ pub mod Messages
 pub mod Headline
 pub mod Judgement
 pub mod Commands
+pub mod Running
 pub mod Faults
 pub mod Answer
+pub mod Laws

@@ -9,9 +9,8 @@ ghost use Rattle.vpo_top.specs.Request.Asked.{Check};
 ghost use Rattle.vpo_top.specs.Faults.{HasReadCause, HasWriteCause, CountsOnlyAsked};
 ghost use Rattle.vpo_top.specs.Answer.{IsCheck};
 
-use crate::fetching::fetch;
-use md_fault::MdFault;
-use md_verdict::{accept, verdict_line};
+use crate::machines::machine_in;
+use md_verdict::verdict_line;
 use std::alloc::Global;
 use vp_io::{Files, Outcome, Sink, Which, write_whole};
 
@@ -49,24 +48,8 @@ fn check<F: Files>(alloc: Global, files: &mut F, description: &str) -> Result<Ve
     ensures fetched { CountsOnly description.now (F.faults files.old) (F.faults files.new) }
     ensures files_kept { F.files files.new ≡ F.files files.old }
 {
-    let text = fetch(alloc, files, description, Which::Description)?;
-    verdict(alloc, &text)
-}
-
-/// The line that is written of a description, or why there is none.
-fn verdict(alloc: Global, text: &[u8]) -> Result<Vec<u8>, Outcome>
-    requires { length text.now ≤ byte_limit }
-    ensures verdict { IfOk result (λ line. IsVerdictOn text.now line.items) }
-    ensures judged { IfErr result (λ outcome. JudgesCheck text.now outcome) }
-    ensures possible { IfErr result (λ outcome. IsRefusalOfCheck outcome) }
-    ensures no_fault { (which : Which) → IsErrOf result (Outcome.ReadFault which) → ⊥ }
-{
-    let accepted = match accept(alloc, text) {
-        Ok(accepted) => accepted,
-        Err(MdFault::NoMemory) => return Err(Outcome::NoMemory),
-        Err(MdFault::Bad(reason)) => return Err(Outcome::BadDescription(reason)),
-    };
-    match verdict_line(alloc, accepted.raw()) {
+    let machine = machine_in(alloc, files, description)?;
+    match verdict_line(alloc, machine.raw()) {
         Ok(line) => Ok(line),
         Err(_) => Err(Outcome::NoMemory),
     }

@@ -7,7 +7,8 @@
 //! - `request`: what the words ask for.
 //! - `compiling`: `cc` fetches a description and a source, and writes the text that is compiled from them. The headline is that this
 //!   text does on the described machine what the source does.
-//! - `checking`: `check` fetches a description, and writes that it is accepted, with its name, word size and number of rows.
+//! - `machines`: the accepted description in a file. `checking`: `check` fetches one, and writes that it is accepted, with its name, word size and number of rows.
+//! - `running`: `run` fetches a description and an assembly text, and runs the text on the described machine.
 //! - `showing`: `show` writes a description that comes with the program.
 //! - `report`: the line on the error stream.
 //!
@@ -18,8 +19,11 @@
 mod checking;
 mod compiling;
 mod fetching;
+pub mod laws;
+mod machines;
 pub mod report;
 mod request;
+mod running;
 mod showing;
 mod top;
 

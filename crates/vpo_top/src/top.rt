@@ -8,6 +8,7 @@ use crate::checking::check_to;
 use crate::compiling::compile_to;
 use crate::report::report;
 use crate::request::{Request, WordsFault, read_words};
+use crate::running::run_to;
 use crate::showing::show_to;
 use std::alloc::Global;
 use vp_io::{Files, Outcome, Sink, Source};
@@ -34,6 +35,18 @@ pub fn vpo<F: Files, S: Source, K: Sink, E: Sink>(
         Ok(Request::Show { which }) => report(show_to(which, output), errors),
         Ok(Request::Cc { desc, src, .. }) => report(
             compile_to(alloc, files, desc.as_str(), src.as_str(), output),
+            errors,
+        ),
+        Ok(Request::Run { steps, desc, asm }) => report(
+            run_to(
+                alloc,
+                files,
+                desc.as_str(),
+                asm.as_str(),
+                steps,
+                input,
+                output,
+            ),
             errors,
         ),
         Err(WordsFault::BadWords) => report(Outcome::BadWords, errors),

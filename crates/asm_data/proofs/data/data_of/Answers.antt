@@ -1,5 +1,5 @@
 use Rattle.std.proofs.Common.{◌≡◌, ℕ, ◌+◌, ◌++◌, length, map, ap, subst, arith}
-use Rattle.asm_line.proofs.Walking.{empty_text}
+use Rattle.asm_row.proofs.Walking.{empty_text}
 use Rattle.asm_program.specs.Programs.{object_of, bytes_after}
 use Rattle.asm_program.specs.Rules.{word_bytes}
 use Rattle.asm_labels.specs.Seen.{seen}

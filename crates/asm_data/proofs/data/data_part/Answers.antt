@@ -1,4 +1,4 @@
-use Rattle.asm_line.proofs.Walking.{empty_text}
+use Rattle.asm_row.proofs.Walking.{empty_text}
 use Rattle.asm_labels.proofs.Opening.{opens}
 use Rattle.asm_data.proofs.Ahead.{data_here, data_later, no_data}
 use Rattle.asm_data.proofs.data.data_part.Goals as goal

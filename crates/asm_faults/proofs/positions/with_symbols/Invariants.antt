@@ -1,6 +1,6 @@
 use Rattle.std.proofs.Common.{ℕ, List, length}
 use Rattle.asm_token.specs.Tokens.{Token}
-use Rattle.asm_line.specs.Walk.{IsLine}
+use Rattle.asm_row.specs.Walk.{IsLine}
 use Rattle.asm_faults.specs.Counts.{AreAdding, HoldsNames}
 use Rattle.asm_faults.proofs.positions.with_symbols.Given as goal
 

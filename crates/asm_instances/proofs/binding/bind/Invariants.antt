@@ -1,7 +1,7 @@
 use Rattle.std.proofs.Common.{◌≡◌, All, length, take}
-use Rattle.asm_line.specs.Line.{HasNumber}
-use Rattle.asm_line.specs.Reading.{AreValues}
-use Rattle.asm_line.specs.Found.{values_of}
+use Rattle.asm_row.specs.Line.{HasNumber}
+use Rattle.asm_row.specs.Reading.{AreValues}
+use Rattle.asm_row.specs.Found.{values_of}
 use Rattle.asm_instances.proofs.binding.bind.Given as goal
 
 abbrev pub invariant-loop-value : goal.invariant-loop-value

@@ -1,4 +1,4 @@
-use Rattle.asm_line.proofs.Walking.{empty_text}
+use Rattle.asm_row.proofs.Walking.{empty_text}
 use Rattle.asm_labels.proofs.Opening.{opens}
 use Rattle.asm_jumps.proofs.LabelsLeft.{has_number, is_few, labels_more, at_data, at_end}
 use Rattle.asm_jumps.proofs.places.labels_of.Goals as goal

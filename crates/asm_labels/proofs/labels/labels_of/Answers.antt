@@ -1,5 +1,5 @@
 use Rattle.std.proofs.Common.{◌+◌, refl, arith}
-use Rattle.asm_line.proofs.Walking.{empty_text}
+use Rattle.asm_row.proofs.Walking.{empty_text}
 use Rattle.asm_labels.proofs.FirstPlaces.{keeps_more, at_end}
 use Rattle.asm_labels.proofs.labels.labels_of.Goals as goal
 

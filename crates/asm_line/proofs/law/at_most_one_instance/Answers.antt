@@ -1,4 +1,4 @@
-use Rattle.asm_line.proofs.Unique.{line_reads, one_instance}
+use Rattle.asm_row.proofs.Unique.{line_reads, one_instance}
 use Rattle.asm_line.proofs.law.at_most_one_instance.Goals as goal
 
 pub returns : goal.returns

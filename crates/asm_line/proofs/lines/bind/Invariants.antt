@@ -1,6 +1,6 @@
 use Rattle.std.proofs.Common.{◌≡◌, ◌+◌, ◌≤◌, length, take}
-use Rattle.asm_line.specs.Reading.{AreValues}
-use Rattle.asm_line.specs.Found.{values_of}
+use Rattle.asm_row.specs.Reading.{AreValues}
+use Rattle.asm_row.specs.Found.{values_of}
 use Rattle.asm_line.specs.Answers.{AddsAll}
 use Rattle.asm_line.proofs.lines.bind.Given as goal
 

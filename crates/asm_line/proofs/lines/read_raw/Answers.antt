@@ -1,7 +1,7 @@
 use Rattle.std.proofs.Common.{List, All, refl, sym, subst}
-use Rattle.asm_line.specs.declared.values.Value.{Value as Held}
-use Rattle.asm_line.specs.Reading.{AreValues}
-use Rattle.asm_line.specs.Found.{values_of}
+use Rattle.asm_row.specs.declared.values.Value.{Value as Held}
+use Rattle.asm_row.specs.Reading.{AreValues}
+use Rattle.asm_row.specs.Found.{values_of}
 use Rattle.asm_line.specs.Answers.{AddsAll, HasNameValue}
 use Rattle.asm_line.proofs.LineRead.{found_names, read_of, never_read}
 use Rattle.asm_line.proofs.lines.read_raw.Goals as goal

@@ -1,4 +1,4 @@
-use Rattle.asm_line.proofs.Walking.{empty_text}
+use Rattle.asm_row.proofs.Walking.{empty_text}
 use Rattle.asm_labels.proofs.Opening.{opens}
 use Rattle.asm_names.proofs.NamesLeft.{can_add, names_more, at_end}
 use Rattle.asm_names.proofs.names.names_of.Goals as goal

@@ -1,5 +1,0 @@
-use Rattle.std.proofs.Common.{length}
-use Rattle.asm_line.proofs.values.+register_among.Given as goal
-
-abbrev pub decreases-register_among : goal.decreases-register_among
-decreases-register_among l = length l.some.now

@@ -1,5 +1,0 @@
-use Rattle.asm_line.proofs.Among.{named_match}
-use Rattle.asm_line.proofs.values.register_named.Goals as goal
-
-pub returns : goal.returns
-returns c = named_match c.args.registers.now c.args.class c.args.name.now c.register_among.result c.register_among.ensures

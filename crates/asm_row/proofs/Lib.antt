@@ -1,0 +1,12 @@
+pub mod HoleValues
+pub mod Texts
+pub mod Unique
+pub mod Walking
+pub mod Words
+pub mod Pieces
+pub mod Different
+pub mod Among
+pub mod Rows
+pub mod FoundOnce
+pub mod Made
+pub mod Indexed

@@ -1,0 +1,43 @@
+-- What an accepted description's memory is bounded by, and what the transfers of its rows may name.
+use Rattle.std.specs.Prelude.{◌≡◌, ℕ, ◌<◌, ◌^◌, true, List, slice_get, Some, All}
+use Rattle.rtl_tree.specs.declared.cells.Cell.{Cell}
+use Rattle.rtl_tree.specs.declared.cells.Cell.TheVariants.{Hard, Flag}
+use Rattle.rtl_tree.specs.Trees.{Tree, Read, Load, Unary, Binary}
+use Rattle.rtl_tree.specs.Moves.{Goal, ToCell, ToMemory, Move}
+use Rattle.rtl_tree.specs.WellFormed.{compares_for_flag, takes_for_register}
+use Rattle.md_rows.specs.declared.description.RawDescription.{RawDescription}
+use Rattle.md_rows.specs.declared.row.Row.{Row}
+use Rattle.md_text.specs.Accepted.{Says}
+
+-- registers have numbers below 64, flags below 8
+abbrev pub IsBoundedCell : Cell → Type 0
+IsBoundedCell (Hard n) = n < 64
+IsBoundedCell (Flag n) = n < 8
+IsBoundedCell _ = Unit {0}
+
+abbrev pub IsBoundedTree : Tree → Type 0
+IsBoundedTree (Read c) = IsBoundedCell c
+IsBoundedTree (Load d a) = IsBoundedTree a
+IsBoundedTree (Unary o a) = IsBoundedTree a
+IsBoundedTree (Binary o a b) = IsBoundedTree a × IsBoundedTree b
+IsBoundedTree _ = Unit {0}
+
+abbrev pub IsBoundedGoal : Goal → Type 0
+IsBoundedGoal (ToCell c) = IsBoundedCell c
+IsBoundedGoal (ToMemory d a) = IsBoundedTree a
+
+-- an assignment over such cells, in which comparisons go to flags alone, and the input to registers alone
+pub record IsBoundedMove (m : Move) : Type 0 where
+  pub goal : IsBoundedGoal m.to
+  pub value : IsBoundedTree m.value
+  pub flags : compares_for_flag m.to m.value ≡ true
+  pub input : takes_for_register m.to m.value ≡ true
+
+-- each address is a word
+pub record IsBounded (d : RawDescription) : Type 0 where
+  pub memory : d.memory < 2 ^ d.word
+  pub rows : (i : ℕ) (row : Row) → slice_get d.rows i ≡ Some row → All IsBoundedMove row.effects
+
+-- what an accepted text says is such
+abbrev pub SaidIsBounded : Type 0
+SaidIsBounded = (text : List ℕ) (d : RawDescription) → Says text d → IsBounded d

@@ -1,0 +1,10 @@
+pub mod Rewriting
+pub mod Seen
+pub mod Commuting
+pub mod Alike
+pub mod Sorted
+pub mod Lookups
+pub mod Partner
+pub mod Traps
+pub mod Others
+pub mod Doing

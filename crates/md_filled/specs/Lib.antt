@@ -1,0 +1,4 @@
+pub mod Held
+pub mod Plain
+pub mod Law
+pub mod Doing

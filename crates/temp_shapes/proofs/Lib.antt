@@ -1,0 +1,5 @@
+pub mod Positions
+pub mod Table
+pub mod Roles
+pub mod Binding
+pub mod Covering

@@ -1,22 +1,23 @@
--- An accepted description covers each required shape, and the table says by which row.
-use Rattle.std.proofs.Common.{◌≡◌, ◌⊎◌, inl, inr, ℕ, zero, suc, ◌+◌, ◌-◌, ◌*◌, ◌/◌, ◌%◌, ◌<◌, ◌≤◌, Bool, true, false, ◌&&◌, IsTrue, List, get_or, slice_get, Option, Some, None, refl, sym, subst, ap, arith, ◌∙◌}
-use Rattle.std.specs.Prelude.{if◌then◌else◌, ◌≢◌, nat_le, nat_lt, ◌==◌}
+-- An accepted description covers each required shape, and a table of its rows says by which one.
+use Rattle.std.proofs.Common.{◌≡◌, ◌⊎◌, inl, inr, ℕ, zero, suc, ◌+◌, ◌-◌, ◌*◌, ◌/◌, ◌%◌, ◌<◌, ◌≤◌, Bool, true, false, IsTrue, List, get_or, slice_get, Option, Some, None, refl, sym, subst, ap, arith, ◌∙◌}
+use Rattle.std.specs.Prelude.{◌==◌, nat_lt}
 use Rattle.std.proofs.lemmas.Bool.Decides.{nat_tests}
 use Rattle.rtl_word.specs.declared.Rel.{Rel}
 use Rattle.rtl_word.specs.declared.Rel.TheVariants.{Eq, Ne, Lt, Le, Gt, Ge, Ltu, Leu, Gtu, Geu}
-use Rattle.rtl_tree.specs.declared.expressions.BinOp.TheVariants.{And}
+use Rattle.rtl_tree.specs.declared.expressions.BinOp.{BinOp}
+use Rattle.rtl_tree.specs.declared.expressions.BinOp.TheVariants.{Add, Sub, And, Or}
 use Rattle.md_rows.specs.declared.description.RawDescription.{RawDescription}
 use Rattle.md_shapes.specs.declared.table.Shape.{Shape}
 use Rattle.md_shapes.specs.declared.patterns.Pattern.{Pattern}
-use Rattle.md_shapes.specs.declared.patterns.Pattern.TheVariants.{Operate, Clear, Branch, Compare, BranchByFlag}
+use Rattle.md_shapes.specs.declared.patterns.Pattern.TheVariants.{Copy, SetNumber, SetSymbol, Load, Store, LoadByte, StoreByte, LoadHome, StoreHome, StoreTop, ReadStack, MoveStack, SetStack, Operate, Complement, Clear, Jump, Branch, Compare, BranchByFlag, Call, Return, SaveLink, RestoreLink, TakeInput, PutOutput, Halt, ReadResult, SetResult, ExtendByte}
 use Rattle.md_shapes.specs.Patterns.{pattern_of}
 use Rattle.md_shapes.specs.Shapes.{plain, relations, shape_by}
-use Rattle.md_check.specs.Accepted.{MissingShape, IsCovered, IsFlagBranch, HasShape, is_required, shape, normalised}
+use Rattle.md_check.specs.Accepted.{MissingShape, IsCovered, IsFlagBranch, HasShape, has_link, is_required, shape, normalised}
 use Rattle.md_check.specs.Checking.{IsChecked}
 use Rattle.temp_shapes.specs.declared.rows.ShapeRows.{ShapeRows}
 use Rattle.temp_shapes.specs.Rows.{IsRowOf, AreShapeRows, IsPatternCovered}
-use Rattle.temp_shapes.specs.Law.{AreShapesCovered, RequiredAreCovered}
-use Rattle.temp_shapes.proofs.Positions.{no, yes, direct_at, comparing_at, flagged_at}
+use Rattle.temp_shapes.proofs.Positions.{direct_at, comparing_at, flagged_at}
+use Rattle.temp_laws.specs.Covered.{is_always, IsBranchByFlag, AreShapesCovered, RequiredAreCovered}
 
 abbrev Decided : Type 0 → Type 0
 Decided P = P ⊎ (P → ⊥)
@@ -47,46 +48,20 @@ stable : {P : Type 0} → Decided P → ((P → ⊥) → ⊥) → P
 stable (inl p) h = p
 stable (inr n) h = absurd (h n)
 
--- the places of the plain shapes
+-- tests of numbers
 
-below_18 : (n : ℕ) → 1 ≤ n → n ≤ 18 → shape_by (n - 1) ≡ plain n
-below_18 n l u =
-    let s : nat_lt (n - 1) 18 ≡ true = grind (arith, nat_tests, l, u) in
-    let e : n - 1 + 1 ≡ n = omega (arith, l) in
-    yes (nat_lt (n - 1) 18) _ _ s ∙ ap (λ (k : ℕ). plain k) e
+below : (m n : ℕ) → nat_lt m n ≡ true → m < n
+below m n e = grind (arith, nat_tests, e)
 
-above_20 : (n : ℕ) → 21 ≤ n → shape_by (n + 97) ≡ plain n
-above_20 n l =
-    let e : n + 97 - 97 ≡ n = omega arith in
-    no (nat_lt (n + 97) 18) _ _ (grind (arith, nat_tests, l)) ∙ (no (n + 97 == 18) _ _ (grind (arith, nat_tests, l)) ∙ (no (n + 97 == 19) _ _ (grind (arith, nat_tests, l))
-    ∙ (no (nat_lt (n + 97) 30) _ _ (grind (arith, nat_tests, l)) ∙ (no (nat_lt (n + 97) 38) _ _ (grind (arith, nat_tests, l))
-    ∙ (no (nat_lt (n + 97) 118) _ _ (grind (arith, nat_tests, l)) ∙ ap (λ (k : ℕ). plain k) e)))))
+differ : (m n : ℕ) → m == n ≡ false → m ≡ n → ⊥
+differ m n e f = grind (arith, nat_tests, e, f)
 
-record PlainPlace (n : ℕ) : Type 0 where
-  place : ℕ
-  within : place < 137
-  is : shape_by place ≡ plain n
+clash : false ≡ true → ⊥
+clash e = cc
 
-plain_place : (n : ℕ) → 1 ≤ n → n ≤ 29 → n ≢ 18 → n ≢ 20 → PlainPlace n
-plain_place n l u a b = by (nat_le n 18) (n == 19) refl refl
-  where
-    by : (p q : Bool) → nat_le n 18 ≡ p → n == 19 ≡ q → PlainPlace n
-    by true q e f = record { place = n - 1; within = omega (arith, l, u); is = below_18 n l (grind (arith, nat_tests, e)) }
-    by false true e f = record { place = 19; within = omega arith; is = ap (λ (k : ℕ). plain k) (grind (arith, nat_tests, f)) }
-    by false false e f =
-        let m : 21 ≤ n = grind (arith, nat_tests, e, f, b) in
-        record { place = n + 97; within = omega (arith, u); is = above_20 n m }
-
-both_of : (a b : Bool) → IsTrue (a && b) → IsTrue a × IsTrue b
-both_of true b h = (tt, h)
-both_of false b h = absurd h
-
-le_of : (m n : ℕ) → IsTrue (nat_le m n) → m ≤ n
-le_of m n h = by (nat_le m n) refl h
-  where
-    by : (k : Bool) → nat_le m n ≡ k → IsTrue k → m ≤ n
-    by true e h = grind (arith, nat_tests, e)
-    by false e h = absurd h
+true_is : (b : Bool) → b ≡ true → IsTrue b
+true_is true e = tt
+true_is false e = absurd (clash e)
 
 relation_place : (r : Rel) → (k : ℕ) × (k < 10) × (get_or relations k Eq ≡ r)
 relation_place Eq = (0, omega arith, refl)
@@ -124,19 +99,57 @@ both_decided P Q (inl p) (inr n) = inr (λ x. n x.1)
 both_decided P Q (inr n) d = inr (λ x. n x.0)
 
 module _ (w : ℕ) (d : RawDescription) (t : ShapeRows) (c : IsChecked w d) (h : AreShapeRows d t) where
-  plain_covered : (n : ℕ) (p : Pattern) → IsTrue (is_required d n) → n ≢ 18 → n ≢ 20 → pattern_of (plain n) ≡ Some p → IsPatternCovered d p
-  plain_covered n p r a b e =
-      let x = both_of (nat_le 1 n) _ r in
-      let y = both_of (nat_le n 29) _ x.1 in
-      let at = plain_place n (le_of 1 n x.0) (le_of n 29 y.0) a b in
-      pattern_covered d (plain n) p e (stable (decided d t (plain n) at.place h at.within at.is) (λ none. not_missing w d n c r (λ s. none (s.other a b))))
+  -- the shape of a number, at its place in the list
+  plain_at : (k n : ℕ) (p : Pattern) → nat_lt k 137 ≡ true → shape_by k ≡ plain n → n == 18 ≡ false → n == 20 ≡ false → IsTrue (is_required d n)
+      → pattern_of (plain n) ≡ Some p → IsPatternCovered d p
+  plain_at k n p l is a b r e =
+      pattern_covered d (plain n) p e (stable (decided d t (plain n) k h (below k 137 l) is)
+      (λ none. not_missing w d n c r (λ s. none (s.other (differ n 18 a) (differ n 20 b)))))
+
+  operator_covered : (o : BinOp) → is_always (has_link d) (Operate o) ≡ true → IsPatternCovered d (Operate o)
+  operator_covered Add e = plain_at 13 14 (Operate Add) refl refl refl refl tt refl
+  operator_covered Sub e = plain_at 14 15 (Operate Sub) refl refl refl refl tt refl
+  operator_covered Or e = plain_at 15 16 (Operate Or) refl refl refl refl tt refl
+  operator_covered _ e = absurd (clash e)
+
+  always_covered : (p : Pattern) → is_always (has_link d) p ≡ true → IsPatternCovered d p
+  always_covered Copy e = plain_at 0 1 Copy refl refl refl refl tt refl
+  always_covered SetNumber e = plain_at 1 2 SetNumber refl refl refl refl tt refl
+  always_covered SetSymbol e = plain_at 2 3 SetSymbol refl refl refl refl tt refl
+  always_covered Load e = plain_at 3 4 Load refl refl refl refl tt refl
+  always_covered Store e = plain_at 4 5 Store refl refl refl refl tt refl
+  always_covered LoadByte e = plain_at 5 6 LoadByte refl refl refl refl tt refl
+  always_covered StoreByte e = plain_at 6 7 StoreByte refl refl refl refl tt refl
+  always_covered LoadHome e = plain_at 7 8 LoadHome refl refl refl refl tt refl
+  always_covered StoreHome e = plain_at 8 9 StoreHome refl refl refl refl tt refl
+  always_covered StoreTop e = plain_at 9 10 StoreTop refl refl refl refl tt refl
+  always_covered ReadStack e = plain_at 10 11 ReadStack refl refl refl refl tt refl
+  always_covered MoveStack e = plain_at 11 12 MoveStack refl refl refl refl tt refl
+  always_covered SetStack e = plain_at 12 13 SetStack refl refl refl refl tt refl
+  always_covered (Operate o) e = operator_covered o e
+  always_covered Complement e = plain_at 16 17 Complement refl refl refl refl tt refl
+  always_covered Clear e = absurd (clash e)
+  always_covered Jump e = plain_at 19 19 Jump refl refl refl refl tt refl
+  always_covered (Branch r) e = absurd (clash e)
+  always_covered (Compare j) e = absurd (clash e)
+  always_covered (BranchByFlag r j) e = absurd (clash e)
+  always_covered Call e = plain_at 118 21 Call refl refl refl refl tt refl
+  always_covered Return e = plain_at 119 22 Return refl refl refl refl tt refl
+  always_covered SaveLink e = plain_at 120 23 SaveLink refl refl refl refl (true_is (has_link d) e) refl
+  always_covered RestoreLink e = plain_at 121 24 RestoreLink refl refl refl refl (true_is (has_link d) e) refl
+  always_covered TakeInput e = plain_at 122 25 TakeInput refl refl refl refl tt refl
+  always_covered PutOutput e = plain_at 123 26 PutOutput refl refl refl refl tt refl
+  always_covered Halt e = plain_at 124 27 Halt refl refl refl refl tt refl
+  always_covered ReadResult e = plain_at 125 28 ReadResult refl refl refl refl tt refl
+  always_covered SetResult e = plain_at 126 29 SetResult refl refl refl refl tt refl
+  always_covered ExtendByte e = absurd (clash e)
 
   clearing_covered : IsPatternCovered d (Operate And) ⊎ IsPatternCovered d Clear
   clearing_covered = elim (decided d t (plain 18) 17 h (omega arith) refl) [
     | inl a ↦ inl (pattern_covered d (plain 18) (Operate And) refl a)
     | inr m ↦ elim (decided d t (shape 18 1 Eq 0) 18 h (omega arith) refl) [
       | inl b ↦ inr (pattern_covered d (shape 18 1 Eq 0) Clear refl b)
-      | inr n ↦ absurd (not_missing w d 18 c refl (λ s. elim (s.clearing refl) [ inl x ↦ m x | inr y ↦ n y ]))
+      | inr n ↦ absurd (not_missing w d 18 c tt (λ s. elim (s.clearing refl) [ inl x ↦ m x | inr y ↦ n y ]))
     ]
   ]
 
@@ -163,19 +176,24 @@ module _ (w : ℕ) (d : RawDescription) (t : ShapeRows) (c : IsChecked w d) (h :
       decided d t (shape 20 2 r j) (38 + 8 * k.0 + j) h (omega (arith, l, k.1))
       (flagged_at (38 + 8 * k.0 + j) (omega arith) (omega (arith, l, k.1)) ∙ shape_is 2 _ r _ j (ap (λ (n : ℕ). get_or relations n Eq) row ∙ k.2) rest)
 
-  branching_covered : (r : Rel) → IsPatternCovered d (Branch r) ⊎ ((j : ℕ) × (j < 8) × IsPatternCovered d (Compare j) × IsPatternCovered d (BranchByFlag r j))
+  branching_covered : (r : Rel) → IsPatternCovered d (Branch r) ⊎ IsBranchByFlag d r
   branching_covered r = elim (direct r) [
     | inl a ↦ inl (pattern_covered d (shape 20 0 r 0) (Branch r) refl a)
     | inr m ↦ elim (searched (λ j. IsCovered d (shape 20 1 Eq j) × IsCovered d (shape 20 2 r j))
         (λ j l. both_decided _ _ (comparing j l) (flagged r j l)) 8 (omega arith)) [
-      | inl x ↦ inr (x.0, x.1, pattern_covered d (shape 20 1 Eq x.0) (Compare x.0) refl x.2.0, pattern_covered d (shape 20 2 r x.0) (BranchByFlag r x.0) refl x.2.1)
-      | inr n ↦ absurd (not_missing w d 20 c refl (λ s. elim (s.branching refl r) [ inl x ↦ m x | inr y ↦ n y.flag y.is_flag (y.compares, y.jumps) ]))
+      | inl x ↦ inr (record {
+        flag = x.0;
+        is_flag = x.1;
+        compares = pattern_covered d (shape 20 1 Eq x.0) (Compare x.0) refl x.2.0;
+        jumps = pattern_covered d (shape 20 2 r x.0) (BranchByFlag r x.0) refl x.2.1;
+      })
+      | inr n ↦ absurd (not_missing w d 20 c tt (λ s. elim (s.branching refl r) [ inl x ↦ m x | inr y ↦ n y.flag y.is_flag (y.compares, y.jumps) ]))
     ]
   ]
 
 pub required_covered : RequiredAreCovered
 required_covered w d t c h = record {
-  plain = plain_covered w d t c h;
+  always = always_covered w d t c h;
   clearing = clearing_covered w d t c h;
   branching = branching_covered w d t c h;
 }

@@ -1,5 +1,6 @@
 -- The transfers of shapes assign no cell twice, and jump where no number says.
 use Rattle.std.proofs.Common.{◌≡◌, ◌⊎◌, inl, inr, ℕ, zero, suc, List, [], ◌∷◌, slice_get, Option, Some, None, refl, sym, subst, ap, ◌∙◌}
+use Rattle.rtl_word.specs.declared.Rel.{Rel}
 use Rattle.rtl_tree.specs.declared.cells.Cell.{Cell}
 use Rattle.rtl_tree.specs.declared.cells.Cell.TheVariants.{Hard, Temp, Pc}
 use Rattle.rtl_tree.specs.declared.cells.Lab.{Lab}
@@ -25,7 +26,7 @@ none = record {
   jump = λ i m p g. absurd (none_some m p);
 }
 
-at_one : (m x : Move) (i : ℕ) → slice_get (m ∷ []) i ≡ Some x → m ≡ x
+pub at_one : (m x : Move) (i : ℕ) → slice_get (m ∷ []) i ≡ Some x → m ≡ x
 at_one m x zero e = some_same m x e
 at_one m x (suc i) e = absurd (none_some x e)
 
@@ -118,6 +119,20 @@ restores : (z : Option ℕ) (at : Tree) → IsSimple (restored z at)
 restores (Some z) at = one _ (λ e. absurd (hard_is_no_counter z Pc e refl))
 restores None at = none
 
+-- what ends a block
+
+pub jump_simple : (m : Frame) (p : Open) → IsSimple (shape_moves m shape.Jump p)
+jump_simple m p = one _ (λ e. tt)
+
+pub branch_simple : (m : Frame) (p : Open) (r : Rel) → IsSimple (shape_moves m (shape.Branch r) p)
+branch_simple m p r = one _ (λ e. ((tt, tt), tt))
+
+pub flag_branch_simple : (m : Frame) (p : Open) (r : Rel) (j : ℕ) → IsSimple (shape_moves m (shape.BranchByFlag r j) p)
+flag_branch_simple m p r j = one _ (λ e. (tt, tt))
+
+pub call_simple : (m : Frame) (p : Open) → IsSimple (shape_moves m shape.Call p)
+call_simple m p = calls m m.link p.label
+
 module _ (m : Frame) (g : ℕ) (p : Open) (a : IsGeneral g p.a) where
   sets_a : (t : Tree) → IsSimple (record { to = ToCell p.a; value = t } ∷ [])
   sets_a t = one _ (λ e. absurd (general_is_no_counter g p.a a (no_jump p.a e)))
@@ -139,11 +154,11 @@ module _ (m : Frame) (g : ℕ) (p : Open) (a : IsGeneral g p.a) where
   shape_simple (shape.Operate o) = sets_a _
   shape_simple shape.Complement = sets_a _
   shape_simple shape.Clear = sets_a _
-  shape_simple shape.Jump = one _ (λ e. tt)
-  shape_simple (shape.Branch r) = one _ (λ e. ((tt, tt), tt))
+  shape_simple shape.Jump = jump_simple m p
+  shape_simple (shape.Branch r) = branch_simple m p r
   shape_simple (shape.Compare j) = one _ (λ e. absurd (let k = no_jump _ e in cc))
-  shape_simple (shape.BranchByFlag r j) = one _ (λ e. (tt, tt))
-  shape_simple shape.Call = calls m m.link p.label
+  shape_simple (shape.BranchByFlag r j) = flag_branch_simple m p r j
+  shape_simple shape.Call = call_simple m p
   shape_simple shape.Return = returns m m.link
   shape_simple shape.SaveLink = saves m.link (stack_plus m p.number)
   shape_simple shape.RestoreLink = restores m.link (stack_plus m p.number)

@@ -1,6 +1,7 @@
 -- What an accepted text says is bounded.
-use Rattle.std.proofs.Common.{◌≡◌, ℕ, ◌<◌, ◌≤◌, ◌^◌, ℤ, pos, negsuc, Bool, true, false, not, ◌&&◌, List, [], ◌∷◌, ◌++◌, filter_map, Option, Some, None, unwrap_or, Contains, inl, inr, refl, sym, subst, arith, ◌∙◌}
-use Rattle.std.specs.Prelude.{int_le}
+use Rattle.std.proofs.Common.{◌≡◌, ℕ, ◌/◌, ◌%◌, ◌<◌, ◌≤◌, ◌^◌, ℤ, pos, negsuc, Bool, true, false, not, ◌&&◌, List, [], ◌∷◌, ◌++◌, filter_map, Option, Some, None, unwrap_or, Contains, inl, inr, refl, sym, subst, arith, ◌∙◌}
+use Rattle.std.specs.Prelude.{int_le, ◌==◌}
+use Rattle.std.proofs.Math.Nat.{zero-mod}
 use Rattle.std.specs.List.{cons_option}
 use Rattle.std.proofs.lemmas.Bool.Decides.{nat_tests}
 use Rattle.rtl_word.specs.Words.{IsWordSize}
@@ -47,6 +48,25 @@ memory_from w before [] u = omega arith
 memory_from w before (d ∷ ds) u =
     memory_cons w before d.form (filter_map (λ x. memory_number x.form) ds) u.0 (memory_from w (before ++ d ∷ []) ds u.1)
 
+whole_words : (w : ℕ) (z : ℤ) → not (is_whole w z && is_from_to 4096 (most_memory w) z) ≡ false → number_of z % (w / 8) ≡ 0
+whole_words w (pos n) e =
+    let k = both_of (is_whole w (pos n)) (is_from_to 4096 (most_memory w) (pos n)) (not_false (is_whole w (pos n) && is_from_to 4096 (most_memory w) (pos n)) e) in
+    no_rest (n % (w / 8)) k.0
+  where
+    no_rest : (m : ℕ) → m == 0 ≡ true → m ≡ 0
+    no_rest m e = grind (arith, nat_tests, e)
+whole_words w (negsuc n) e = absurd (cc)
+
+words_cons : (w : ℕ) (before : List Declaration) (form : Form) (zs : List ℤ) → is_out_of_range w before form ≡ false → first_number zs % (w / 8) ≡ 0
+    → first_number (cons_option (memory_number form) zs) % (w / 8) ≡ 0
+words_cons w before (MemorySize z) zs e h = whole_words w z e
+words_cons w before _ zs e h = h
+
+words_from : (w : ℕ) (before ds : List Declaration) → Unbroken (is_out_of_range w) before ds → memory_in ds % (w / 8) ≡ 0
+words_from w before [] u = zero-mod (w / 8)
+words_from w before (d ∷ ds) u =
+    words_cons w before d.form (filter_map (λ x. memory_number x.form) ds) u.0 (words_from w (before ++ d ∷ []) ds u.1)
+
 most_is_word : (w : ℕ) → IsWordSize w → most_memory w < 2 ^ w
 most_is_word w (inl e) = subst (λ (v : ℕ). most_memory v < 2 ^ v) (sym e) (let h : 65534 < 65536 = omega arith in h)
 most_is_word w (inr e) = subst (λ (v : ℕ). most_memory v < 2 ^ v) (sym e) (let h : 16777216 < 4294967296 = omega arith in h)
@@ -91,6 +111,7 @@ declared_bounded text d a h size =
     let word = most_is_word d.width size in
     record {
       memory = omega (arith, most, word);
+      words = words_from d.width [] d.all ranges;
       rows = mapped_at row_of (λ r. IsBoundedTransfer r.effects) all
           (λ i e k. row_bounded d e (subst (λ (xs : List Expanded). Contains xs e) (sym whole) (contains_at all i e k))
           (λ l b. a BadTransfer l (record { declared = d; declares = h; breaks = b }))

@@ -1,5 +1,5 @@
 -- What an accepted description's memory is bounded by, and what the transfers of its rows may be.
-use Rattle.std.specs.Prelude.{◌≡◌, ℕ, ◌<◌, ◌^◌, List, slice_get, Some, All}
+use Rattle.std.specs.Prelude.{◌≡◌, ℕ, ◌<◌, ◌/◌, ◌%◌, ◌^◌, List, slice_get, Some, All}
 use Rattle.rtl_tree.specs.declared.cells.Cell.{Cell}
 use Rattle.rtl_tree.specs.declared.cells.Cell.TheVariants.{Hard, Flag}
 use Rattle.rtl_tree.specs.Trees.{Tree, Read, Load, Unary, Binary}
@@ -36,9 +36,10 @@ pub record IsBoundedTransfer (ms : List Move) : Type 0 where
   pub moves : All IsBoundedMove ms
   pub formed : IsWellFormed ms
 
--- each address is a word
+-- each address is a word, and the memory is made of words
 pub record IsBounded (d : RawDescription) : Type 0 where
   pub memory : d.memory < 2 ^ d.word
+  pub words : d.memory % (d.word / 8) ≡ 0
   pub rows : (i : ℕ) (row : Row) → slice_get d.rows i ≡ Some row → IsBoundedTransfer row.effects
 
 -- what an accepted text says is such

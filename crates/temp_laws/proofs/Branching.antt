@@ -2,7 +2,7 @@
 use Rattle.std.proofs.Common.{◌≡◌, ◌⊎◌, inl, inr, ℕ, zero, suc, ◌<◌, ◌^◌, Bool, true, false, List, [], ◌∷◌, map, slice_get, Option, Some, None, Result, Ok, Err, refl, sym, subst, ap, arith, ◌∙◌}
 use Rattle.std.specs.Prelude.{if◌then◌else◌}
 use Rattle.rtl_word.specs.declared.Rel.{Rel}
-use Rattle.rtl_word.specs.Words.{IsWordSize}
+use Rattle.rtl_word.specs.Words.{IsWordSize, word_rel}
 use Rattle.rtl_word.proofs.Below.{by_size}
 use Rattle.rtl_tree.specs.declared.cells.Cell.{Cell}
 use Rattle.rtl_tree.specs.declared.cells.Cell.TheVariants.{Hard, Temp, Flag, Pc, Input, Output, Halt, Hole as RegisterHole}
@@ -12,7 +12,7 @@ use Rattle.rtl_tree.specs.Trees.{Tree, Number, Symbol, CodeLabel, Read, Load, Un
 use Rattle.rtl_tree.specs.Moves.{Goal, ToCell, ToMemory, Move}
 use Rattle.rtl_tree.proofs.Equality.{same_cell-own}
 use Rattle.rtl_effect.specs.Views.{Stop, Mark, Holds, Gone, View, bind, binary_seen, mark_test}
-use Rattle.rtl_effect.specs.Effects.{mark_of_two, assigned, storing, Storing, done, jump, chosen, tested, event, went, Patch, patch_of, patched, Done, view_after, mark_after, cell_after, effect}
+use Rattle.rtl_effect.specs.Effects.{mark_of_two, assigned, storing, Storing, Fine, done, jump, chosen, tested, event, went, Patch, patch_of, patched, Done, view_after, mark_after, cell_after, effect}
 use Rattle.rtl_effect.specs.Agree.{Tells, blank, word, Marks, gone, holds, Refines, stops, gives, Ground, Shows, Agree, Within, GoalWithin, AllWithin, DoneAgree}
 use Rattle.rtl_effect.specs.EffectLaws.{EffectGrows}
 use Rattle.rtl_norm_value.specs.Kept.{IsWordView}
@@ -53,7 +53,7 @@ abbrev ending : ℕ → Tree → View → Option ℕ → Done
 ending w t v q = record { view = view_after w (set_cell Pc t) None v; place = q; output = None; halt = None }
 
 abbrev ended : ℕ → Tree → View → Result (Option ℕ) Stop → Result Done Stop
-ended w t v j = bind (bind (done j) (λ x. Ok tt)) (λ x. bind j (λ q. Ok (ending w t v q)))
+ended w t v j = bind (bind (done j) (λ x. let r : Fine = Ok tt in r)) (λ x. bind j (λ q. Ok (ending w t v q)))
 
 is_ended : (w : ℕ) (t : Tree) (v : View) → effect w (set_cell Pc t) v ≡ ended w t v (jump w t v)
 is_ended w t v = refl
@@ -80,7 +80,7 @@ chosen_same v u None t e = refl
 
 test_same : (w : ℕ) (r : Rel) (x y : Option ℕ) (v u : View) (t q : Option ℕ) → u.cells Pc ≡ v.cells Pc
     → bind (binary_seen w (Cmp r) x y) (λ k. chosen v k t) ≡ Ok q → bind (mark_test w r (mark_of_two x y)) (λ k. chosen u k t) ≡ Ok q
-test_same w r (Some a) (Some b) v u t q e h = chosen_same v u _ t e ∙ h
+test_same w r (Some a) (Some b) v u t q e h = chosen_same v u (Some (word_rel w r a b)) t e ∙ h
 test_same w r (Some a) None v u t q e h = absurd (stop_is_no_ok _ q h)
 test_same w r None (Some b) v u t q e h = absurd (stop_is_no_ok _ q h)
 test_same w r None None v u t q e h = absurd (stop_is_no_ok _ q h)

@@ -10,6 +10,7 @@ use Rattle.md_rows.specs.declared.instance.Bound.{Bound}
 use Rattle.md_rows.specs.declared.instance.Bound.TheVariants.{Reg, Num, Sym, Label}
 use Rattle.md_rows.specs.Fits.{is_in, fits}
 use Rattle.md_rows.specs.Instances.{AllFit}
+use Rattle.md_match.specs.Searches.{goal_tree}
 use Rattle.md_covers.specs.Covers.{is_register_hole, is_number_hole, is_name_hole, IsRowTree, IsRowMove}
 use Rattle.md_filled.specs.Held.{IsRegister, IsWord, IsName, IsHeld}
 use Rattle.md_filled.specs.Doing.{IsHeldMove}
@@ -97,4 +98,4 @@ module _ (w g : ℕ) where
   tree_held holes b (AnyName k) f r = name_in holes b k f r
 
   pub move_held : (holes : List Hole) (b : List Bound) (m : Move) → AllFit w g holes b → IsRowMove holes m → IsHeldMove w b m
-  move_held holes b m f r = record { place = tree_held holes b _ f r.place; value = tree_held holes b m.value f r.value }
+  move_held holes b m f r = record { place = tree_held holes b (goal_tree m.to) f r.place; value = tree_held holes b m.value f r.value }

@@ -74,7 +74,7 @@ pub checked_size : (w : ℕ) (d : RawDescription) → SaidIsSound → IsChecked 
 checked_size w d sound c = subst (λ (e : RawDescription). IsWordSize e.word) (sym c.normal) (sound c.text c.said c.accepted.says).size
 
 module _ (w g : ℕ) (es ms : List Move) (m : Makes w g es ms) where
-  abbrev normal : List Move
+  abbrev pub normal : List Move
   normal = norm_moves w m.row.effects
 
   pub held_at : (i : ℕ) (e : Move) → slice_get m.row.effects i ≡ Some e → IsHeldMove w m.binding e

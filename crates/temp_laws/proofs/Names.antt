@@ -211,8 +211,8 @@ module _ (w g : ℕ) (es ms : List Move) (m : Makes w g es ms) (p : Cell → Boo
   -- so no such cell is read for a flag
   idle_gone : (t : Tree) → IsHeld w m.binding t → IsRowTree m.row.holes t → names_none g t ≡ true → flags_tested t ≡ true
       → AllTraps (IsPartOfMarked (normal w g es ms m) m.marks m.binding) t → Gone t
-  idle_gone (Number n) i r n f a = refl
-  idle_gone (Symbol n) i r n f a = refl
+  idle_gone (Number k) i r n f a = refl
+  idle_gone (Symbol k) i r n f a = refl
   idle_gone (CodeLabel l) i r n f a = refl
   idle_gone NoPair i r n f a = refl
   idle_gone (AnyNumber h) i r n f a = word_is w (λ t. some_cell p t ≡ false) (AnyNumber h) (slice_get m.binding h) i (λ k l. refl)

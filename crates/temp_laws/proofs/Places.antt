@@ -111,14 +111,14 @@ pub record Passes (f : Move → Bool) (ms : List Move) : Type 0 where
 
 pub any_from : (f : Move → Bool) (ms : List Move) → list_any f ms ≡ true → Passes f ms
 any_from f [] e = let k : false ≡ true = e in cc
-any_from f (m ∷ ms) e = by (f m) refl e
+any_from f (m ∷ ms) e = by (λ k. any_from f ms k) (f m) refl e
   where
     behind : Passes f ms → Passes f (m ∷ ms)
     behind p = record { move = p.move; among = record { place = suc p.among.place; is = p.among.is }; passes = p.passes }
 
-    by : (b : Bool) → f m ≡ b → (b || list_any f ms) ≡ true → Passes f (m ∷ ms)
-    by true k e = record { move = m; among = record { place = 0; is = refl }; passes = k }
-    by false k e = behind (any_from f ms e)
+    by : (list_any f ms ≡ true → Passes f ms) → (b : Bool) → f m ≡ b → (b || list_any f ms) ≡ true → Passes f (m ∷ ms)
+    by next true k e = record { move = m; among = record { place = 0; is = refl }; passes = k }
+    by next false k e = behind (next e)
 
 pub none_by : (f : Move → Bool) (ms : List Move) → ((x : Move) → Among ms x → f x ≡ false) → list_any f ms ≡ false
 none_by f [] h = refl

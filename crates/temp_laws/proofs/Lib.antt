@@ -8,3 +8,4 @@ pub mod Going
 pub mod Cells
 pub mod Names
 pub mod Covered
+pub mod Targets

@@ -2,3 +2,4 @@ pub mod Doing
 pub mod Going
 pub mod Keeping
 pub mod Covered
+pub mod Targets

@@ -1,17 +1,19 @@
 //! Laws of the transfers of shapes, for code that is put together of them.
 //!
 //! The functions of this crate have no code. specs/Doing.antt says that a transfer of a shape does what the shape does; specs/Going.antt
-//! where jumps, branches and calls go; specs/Keeping.antt which cells a transfer sets and names; and specs/Covered.antt for which shapes
-//! each accepted description has a row.
+//! where jumps, branches and calls go; specs/Keeping.antt which cells a transfer sets and names; specs/Covered.antt for which shapes each
+//! accepted description has a row; and specs/Targets.antt what holds of its machine.
 #![tactic(auto)]
 
 ghost use Rattle.temp_laws.specs.Covered.{RequiredAreCovered};
 ghost use Rattle.temp_laws.specs.Doing.{BodiesDoShapes, FlagBranchesDoBranches, TransfersDoShapes};
 ghost use Rattle.temp_laws.specs.Going.{BranchesGo, CallsGo, FlagBranchesGo, JumpsGo};
 ghost use Rattle.temp_laws.specs.Keeping.{FlagsAreShapes, NamesAreShapes, SetsAreKept, SetsAreShapes};
+ghost use Rattle.temp_laws.specs.Targets.{TargetsAreSound};
 
 use md_bounds::said_is_bounded;
-use md_said::said_is_sound;
+use md_covers::laws::general_bits_are_a_sum;
+use md_said::{said_is_limited, said_is_sound};
 use rtl_effect::effect_grows;
 
 /// Wherever the transfer of a shape can be made on words, a transfer that is the shape's does the same, but for flags that the shape
@@ -109,3 +111,14 @@ pub fn flags_are_shapes()
 pub fn required_covered()
     ensures { RequiredAreCovered }
 {}
+
+/// The machine of an accepted description is such as each pass may ask: its memory is made of words, and its stack register, result
+/// register and link register are different and none of them is general.
+pub fn targets_are_sound()
+    ensures { TargetsAreSound }
+{
+    said_is_sound();
+    said_is_limited();
+    said_is_bounded();
+    general_bits_are_a_sum();
+}

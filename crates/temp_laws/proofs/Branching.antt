@@ -1,5 +1,5 @@
 -- A comparison and a branch by its flag do what the branch on the two operands does.
-use Rattle.std.proofs.Common.{◌≡◌, ◌⊎◌, inl, inr, ℕ, zero, suc, ◌<◌, ◌^◌, Bool, true, false, List, [], ◌∷◌, map, slice_get, Option, Some, None, Result, Ok, Err, refl, sym, subst, ap, arith, ◌∙◌}
+use Rattle.std.proofs.Common.{◌≡◌, ◌⊎◌, inl, inr, ℕ, zero, suc, ◌<◌, ◌^◌, Bool, true, List, [], ◌∷◌, Option, Some, None, Result, Ok, Err, refl, sym, subst, ap, arith, ◌∙◌}
 use Rattle.std.specs.Prelude.{if◌then◌else◌}
 use Rattle.rtl_word.specs.declared.Rel.{Rel}
 use Rattle.rtl_word.specs.Words.{IsWordSize, word_rel}
@@ -13,7 +13,7 @@ use Rattle.rtl_tree.specs.Moves.{Goal, ToCell, ToMemory, Move}
 use Rattle.rtl_tree.proofs.Equality.{same_cell-own}
 use Rattle.rtl_effect.specs.Views.{Stop, Mark, Holds, Gone, View, bind, binary_seen, mark_test}
 use Rattle.rtl_effect.specs.Effects.{mark_of_two, assigned, storing, Storing, Fine, done, jump, chosen, tested, event, went, Patch, patch_of, patched, Done, view_after, mark_after, cell_after, effect}
-use Rattle.rtl_effect.specs.Agree.{Tells, blank, word, Marks, gone, holds, Refines, stops, gives, Ground, Shows, Agree, Within, GoalWithin, AllWithin, DoneAgree}
+use Rattle.rtl_effect.specs.Agree.{Tells, blank, word, Marks, gone, holds, Refines, stops, gives, Agree, Within, GoalWithin, AllWithin, DoneAgree}
 use Rattle.rtl_effect.specs.EffectLaws.{EffectGrows}
 use Rattle.rtl_norm_value.specs.Kept.{IsWordView}
 use Rattle.rtl_norm_value.specs.Effect.{jump_in_form, with_normal_jump}
@@ -27,7 +27,7 @@ use Rattle.md_filled.proofs.Lookups.{Among, assigned_from, stored_from}
 use Rattle.md_filled.proofs.Doing.{unmapped}
 use Rattle.temp_laws.specs.Doing.{FlagBranchesDoBranches}
 use Rattle.temp_laws.proofs.Making.{Makes, made_of, checked_size}
-use Rattle.temp_laws.proofs.Places.{AtShape, AtFlag, goes_to, from_cell, goal_same}
+use Rattle.temp_laws.proofs.Places.{AtFlag, goes_to, from_cell, goal_same}
 use Rattle.temp_laws.proofs.Simple.{at_one}
 use Rattle.temp_laws.proofs.Doing.{shapes_done, bodies_done}
 

@@ -1,5 +1,5 @@
 -- An accepted description covers each required shape, and a table of its rows says by which one.
-use Rattle.std.proofs.Common.{◌≡◌, ◌⊎◌, inl, inr, ℕ, zero, suc, ◌+◌, ◌-◌, ◌*◌, ◌/◌, ◌%◌, ◌<◌, ◌≤◌, Bool, true, false, IsTrue, List, get_or, slice_get, Option, Some, None, refl, sym, subst, ap, arith, ◌∙◌}
+use Rattle.std.proofs.Common.{◌≡◌, ◌⊎◌, inl, inr, ℕ, zero, suc, ◌+◌, ◌-◌, ◌*◌, ◌/◌, ◌%◌, ◌<◌, ◌≤◌, Bool, true, false, IsTrue, get_or, Option, Some, None, refl, subst, ap, arith, ◌∙◌}
 use Rattle.std.specs.Prelude.{◌==◌, nat_lt}
 use Rattle.std.proofs.lemmas.Bool.Decides.{nat_tests}
 use Rattle.rtl_word.specs.declared.Rel.{Rel}
@@ -12,12 +12,12 @@ use Rattle.md_shapes.specs.declared.patterns.Pattern.{Pattern}
 use Rattle.md_shapes.specs.declared.patterns.Pattern.TheVariants.{Copy, SetNumber, SetSymbol, Load, Store, LoadByte, StoreByte, LoadHome, StoreHome, StoreTop, ReadStack, MoveStack, SetStack, Operate, Complement, Clear, Jump, Branch, Compare, BranchByFlag, Call, Return, SaveLink, RestoreLink, TakeInput, PutOutput, Halt, ReadResult, SetResult, ExtendByte}
 use Rattle.md_shapes.specs.Patterns.{pattern_of}
 use Rattle.md_shapes.specs.Shapes.{plain, relations, shape_by}
-use Rattle.md_check.specs.Accepted.{MissingShape, IsCovered, IsFlagBranch, HasShape, has_link, is_required, shape, normalised}
+use Rattle.md_check.specs.Accepted.{MissingShape, IsCovered, HasShape, has_link, is_required, shape}
 use Rattle.md_check.specs.Checking.{IsChecked}
 use Rattle.temp_shapes.specs.declared.rows.ShapeRows.{ShapeRows}
 use Rattle.temp_shapes.specs.Rows.{IsRowOf, AreShapeRows, IsPatternCovered}
 use Rattle.temp_shapes.proofs.Positions.{direct_at, comparing_at, flagged_at}
-use Rattle.temp_laws.specs.Covered.{is_always, IsBranchByFlag, AreShapesCovered, RequiredAreCovered}
+use Rattle.temp_laws.specs.Covered.{is_always, IsBranchByFlag, RequiredAreCovered}
 
 abbrev Decided : Type 0 → Type 0
 Decided P = P ⊎ (P → ⊥)
@@ -59,10 +59,6 @@ differ m n e f = grind (arith, nat_tests, e, f)
 clash : false ≡ true → ⊥
 clash e = cc
 
-true_is : (b : Bool) → b ≡ true → IsTrue b
-true_is true e = tt
-true_is false e = absurd (clash e)
-
 relation_place : (r : Rel) → (k : ℕ) × (k < 10) × (get_or relations k Eq ≡ r)
 relation_place Eq = (0, omega arith, refl)
 relation_place Ne = (1, omega arith, refl)
@@ -80,9 +76,9 @@ searched : (P : ℕ → Type 0) → ((j : ℕ) → j < 8 → Decided (P j)) → 
 searched P dec zero l = inr (λ j k p. omega (arith, k))
 searched P dec (suc n) l = elim (searched P dec n (omega (arith, l))) [
   | inl x ↦ inl (x.0, omega (arith, x.1), x.2)
-  | inr none ↦ elim (dec n (omega (arith, l))) [
+  | inr before ↦ elim (dec n (omega (arith, l))) [
     | inl p ↦ inl (n, omega arith, p)
-    | inr no ↦ inr (λ j k p. elim (last j n k) [ inl m ↦ none j m p | inr e ↦ no (subst P e p) ])
+    | inr never ↦ inr (λ j k p. elim (last j n k) [ inl m ↦ before j m p | inr e ↦ never (subst P e p) ])
   ]
 ]
   where
@@ -104,44 +100,44 @@ module _ (w : ℕ) (d : RawDescription) (t : ShapeRows) (c : IsChecked w d) (h :
       → pattern_of (plain n) ≡ Some p → IsPatternCovered d p
   plain_at k n p l is a b r e =
       pattern_covered d (plain n) p e (stable (decided d t (plain n) k h (below k 137 l) is)
-      (λ none. not_missing w d n c r (λ s. none (s.other (differ n 18 a) (differ n 20 b)))))
+      (λ missing. not_missing w d n c r (λ s. missing (s.other (differ n 18 a) (differ n 20 b)))))
 
   operator_covered : (o : BinOp) → is_always (has_link d) (Operate o) ≡ true → IsPatternCovered d (Operate o)
-  operator_covered Add e = plain_at 13 14 (Operate Add) refl refl refl refl tt refl
-  operator_covered Sub e = plain_at 14 15 (Operate Sub) refl refl refl refl tt refl
-  operator_covered Or e = plain_at 15 16 (Operate Or) refl refl refl refl tt refl
+  operator_covered Add e = plain_at 13 14 (Operate Add) refl refl refl refl refl refl
+  operator_covered Sub e = plain_at 14 15 (Operate Sub) refl refl refl refl refl refl
+  operator_covered Or e = plain_at 15 16 (Operate Or) refl refl refl refl refl refl
   operator_covered _ e = absurd (clash e)
 
   always_covered : (p : Pattern) → is_always (has_link d) p ≡ true → IsPatternCovered d p
-  always_covered Copy e = plain_at 0 1 Copy refl refl refl refl tt refl
-  always_covered SetNumber e = plain_at 1 2 SetNumber refl refl refl refl tt refl
-  always_covered SetSymbol e = plain_at 2 3 SetSymbol refl refl refl refl tt refl
-  always_covered Load e = plain_at 3 4 Load refl refl refl refl tt refl
-  always_covered Store e = plain_at 4 5 Store refl refl refl refl tt refl
-  always_covered LoadByte e = plain_at 5 6 LoadByte refl refl refl refl tt refl
-  always_covered StoreByte e = plain_at 6 7 StoreByte refl refl refl refl tt refl
-  always_covered LoadHome e = plain_at 7 8 LoadHome refl refl refl refl tt refl
-  always_covered StoreHome e = plain_at 8 9 StoreHome refl refl refl refl tt refl
-  always_covered StoreTop e = plain_at 9 10 StoreTop refl refl refl refl tt refl
-  always_covered ReadStack e = plain_at 10 11 ReadStack refl refl refl refl tt refl
-  always_covered MoveStack e = plain_at 11 12 MoveStack refl refl refl refl tt refl
-  always_covered SetStack e = plain_at 12 13 SetStack refl refl refl refl tt refl
+  always_covered Copy e = plain_at 0 1 Copy refl refl refl refl refl refl
+  always_covered SetNumber e = plain_at 1 2 SetNumber refl refl refl refl refl refl
+  always_covered SetSymbol e = plain_at 2 3 SetSymbol refl refl refl refl refl refl
+  always_covered Load e = plain_at 3 4 Load refl refl refl refl refl refl
+  always_covered Store e = plain_at 4 5 Store refl refl refl refl refl refl
+  always_covered LoadByte e = plain_at 5 6 LoadByte refl refl refl refl refl refl
+  always_covered StoreByte e = plain_at 6 7 StoreByte refl refl refl refl refl refl
+  always_covered LoadHome e = plain_at 7 8 LoadHome refl refl refl refl refl refl
+  always_covered StoreHome e = plain_at 8 9 StoreHome refl refl refl refl refl refl
+  always_covered StoreTop e = plain_at 9 10 StoreTop refl refl refl refl refl refl
+  always_covered ReadStack e = plain_at 10 11 ReadStack refl refl refl refl refl refl
+  always_covered MoveStack e = plain_at 11 12 MoveStack refl refl refl refl refl refl
+  always_covered SetStack e = plain_at 12 13 SetStack refl refl refl refl refl refl
   always_covered (Operate o) e = operator_covered o e
-  always_covered Complement e = plain_at 16 17 Complement refl refl refl refl tt refl
+  always_covered Complement e = plain_at 16 17 Complement refl refl refl refl refl refl
   always_covered Clear e = absurd (clash e)
-  always_covered Jump e = plain_at 19 19 Jump refl refl refl refl tt refl
+  always_covered Jump e = plain_at 19 19 Jump refl refl refl refl refl refl
   always_covered (Branch r) e = absurd (clash e)
   always_covered (Compare j) e = absurd (clash e)
   always_covered (BranchByFlag r j) e = absurd (clash e)
-  always_covered Call e = plain_at 118 21 Call refl refl refl refl tt refl
-  always_covered Return e = plain_at 119 22 Return refl refl refl refl tt refl
-  always_covered SaveLink e = plain_at 120 23 SaveLink refl refl refl refl (true_is (has_link d) e) refl
-  always_covered RestoreLink e = plain_at 121 24 RestoreLink refl refl refl refl (true_is (has_link d) e) refl
-  always_covered TakeInput e = plain_at 122 25 TakeInput refl refl refl refl tt refl
-  always_covered PutOutput e = plain_at 123 26 PutOutput refl refl refl refl tt refl
-  always_covered Halt e = plain_at 124 27 Halt refl refl refl refl tt refl
-  always_covered ReadResult e = plain_at 125 28 ReadResult refl refl refl refl tt refl
-  always_covered SetResult e = plain_at 126 29 SetResult refl refl refl refl tt refl
+  always_covered Call e = plain_at 118 21 Call refl refl refl refl refl refl
+  always_covered Return e = plain_at 119 22 Return refl refl refl refl refl refl
+  always_covered SaveLink e = plain_at 120 23 SaveLink refl refl refl refl e refl
+  always_covered RestoreLink e = plain_at 121 24 RestoreLink refl refl refl refl e refl
+  always_covered TakeInput e = plain_at 122 25 TakeInput refl refl refl refl refl refl
+  always_covered PutOutput e = plain_at 123 26 PutOutput refl refl refl refl refl refl
+  always_covered Halt e = plain_at 124 27 Halt refl refl refl refl refl refl
+  always_covered ReadResult e = plain_at 125 28 ReadResult refl refl refl refl refl refl
+  always_covered SetResult e = plain_at 126 29 SetResult refl refl refl refl refl refl
   always_covered ExtendByte e = absurd (clash e)
 
   clearing_covered : IsPatternCovered d (Operate And) ⊎ IsPatternCovered d Clear
@@ -149,7 +145,7 @@ module _ (w : ℕ) (d : RawDescription) (t : ShapeRows) (c : IsChecked w d) (h :
     | inl a ↦ inl (pattern_covered d (plain 18) (Operate And) refl a)
     | inr m ↦ elim (decided d t (shape 18 1 Eq 0) 18 h (omega arith) refl) [
       | inl b ↦ inr (pattern_covered d (shape 18 1 Eq 0) Clear refl b)
-      | inr n ↦ absurd (not_missing w d 18 c tt (λ s. elim (s.clearing refl) [ inl x ↦ m x | inr y ↦ n y ]))
+      | inr n ↦ absurd (not_missing w d 18 c refl (λ s. elim (s.clearing refl) [ inl x ↦ m x | inr y ↦ n y ]))
     ]
   ]
 
@@ -187,7 +183,7 @@ module _ (w : ℕ) (d : RawDescription) (t : ShapeRows) (c : IsChecked w d) (h :
         compares = pattern_covered d (shape 20 1 Eq x.0) (Compare x.0) refl x.2.0;
         jumps = pattern_covered d (shape 20 2 r x.0) (BranchByFlag r x.0) refl x.2.1;
       })
-      | inr n ↦ absurd (not_missing w d 20 c tt (λ s. elim (s.branching refl r) [ inl x ↦ m x | inr y ↦ n y.flag y.is_flag (y.compares, y.jumps) ]))
+      | inr n ↦ absurd (not_missing w d 20 c refl (λ s. elim (s.branching refl r) [ inl x ↦ m x | inr y ↦ n y.flag y.is_flag (y.compares, y.jumps) ]))
     ]
   ]
 

@@ -1,28 +1,25 @@
 -- Where the transfers of jumps, branches and calls go.
-use Rattle.std.proofs.Common.{◌≡◌, ◌⊎◌, inl, inr, ℕ, true, false, List, [], ◌∷◌, map, slice_get, Option, Some, None, refl, sym, subst, ap, ◌∙◌}
-use Rattle.rtl_word.specs.declared.Rel.{Rel}
-use Rattle.rtl_tree.specs.declared.cells.Cell.{Cell}
+use Rattle.std.proofs.Common.{◌≡◌, inl, inr, ℕ, true, false, List, slice_get, Option, Some, None, refl, sym, subst, ap, ◌∙◌}
 use Rattle.rtl_tree.specs.declared.cells.Cell.TheVariants.{Hard, Temp, Flag, Pc, Input, Output, Halt, Hole as RegisterHole}
 use Rattle.rtl_tree.specs.declared.cells.Lab.{Lab}
-use Rattle.rtl_tree.specs.declared.cells.Lab.TheVariants.{Block, Function}
+use Rattle.rtl_tree.specs.declared.cells.Lab.TheVariants.{Block}
 use Rattle.rtl_tree.specs.declared.expressions.BinOp.{BinOp}
 use Rattle.rtl_tree.specs.declared.expressions.BinOp.TheVariants.{When}
 use Rattle.rtl_tree.specs.declared.expressions.UnOp.{UnOp}
 use Rattle.rtl_tree.specs.declared.expressions.Width.{Width}
-use Rattle.rtl_tree.specs.Trees.{Tree, CodeLabel, Read, Load, Unary, Binary}
+use Rattle.rtl_tree.specs.Trees.{Tree, CodeLabel, Load, Unary, Binary}
 use Rattle.rtl_tree.specs.Moves.{Goal, ToCell, ToMemory, Move}
 use Rattle.rtl_tree.specs.Likeness.{commutes, IsAlike, equal, loads, unaries, straight, crossed}
 use Rattle.rtl_norm.specs.Normal.{norm}
-use Rattle.rtl_norm.specs.Transfers.{norm_goal, norm_value, norm_move}
+use Rattle.rtl_norm.specs.Transfers.{norm_value}
 use Rattle.rtl_effect.specs.Effects.{assigned}
 use Rattle.rtl_norm_value.specs.Effect.{jump_in_form, with_normal_jump}
 use Rattle.md_rows.specs.declared.instance.Bound.{Bound}
 use Rattle.md_rows.specs.declared.instance.Bound.TheVariants.{Reg, Num, Sym, Label}
-use Rattle.md_rows.specs.Instances.{register_by, filled, filled_goal, filled_move}
+use Rattle.md_rows.specs.Instances.{register_by, filled, filled_goal}
 use Rattle.md_match.specs.Searches.{goal_tree}
-use Rattle.md_match.specs.Does.{IsAlikeMove}
 use Rattle.md_shapes.specs.declared.patterns.Pattern.TheVariants as shape
-use Rattle.md_shapes.specs.Shapes.{Frame, Open, shape_moves, call_moves}
+use Rattle.md_shapes.specs.Shapes.{Frame, shape_moves, call_moves}
 use Rattle.md_said.specs.Sound.{SaidIsSound}
 use Rattle.md_bounds.specs.Bounds.{SaidIsBounded}
 use Rattle.md_filled.specs.Held.{IsRegister, IsHeld}
@@ -30,13 +27,13 @@ use Rattle.md_filled.specs.Doing.{IsNumberless, IsSimple, IsHeldMove}
 use Rattle.md_filled.proofs.Rewriting.{norm_held}
 use Rattle.md_filled.proofs.Commuting.{form_filled}
 use Rattle.md_filled.proofs.Sorted.{alike_numberless, plain_of}
-use Rattle.md_filled.proofs.Lookups.{Among, Assigns, assigned_from, assigned_some}
+use Rattle.md_filled.proofs.Lookups.{assigned_from, assigned_some}
 use Rattle.md_filled.proofs.Doing.{mapped, unmapped}
-use Rattle.temp_machine.specs.Machine.{callee_by, callee_of}
-use Rattle.temp_machine.specs.Flow.{label_by, label_of}
+use Rattle.temp_machine.specs.Machine.{callee_by}
+use Rattle.temp_machine.specs.Flow.{label_by}
 use Rattle.temp_laws.specs.Going.{JumpsGo, BranchesGo, FlagBranchesGo, CallsGo}
 use Rattle.temp_laws.proofs.Making.{Makes, made_of, Taking, held_at, kind, comes_from}
-use Rattle.temp_laws.proofs.Places.{SamePlace, place_same, from_cell, to_cell, goal_same, taken_to}
+use Rattle.temp_laws.proofs.Places.{place_same, from_cell, to_cell, goal_same, taken_to}
 use Rattle.temp_laws.proofs.Simple.{jump_simple, branch_simple, flag_branch_simple, call_simple}
 
 -- a place that is the program counter once it is filled is that

@@ -1,5 +1,5 @@
 -- The values of an instance are of the kinds of its row's holes.
-use Rattle.std.proofs.Common.{◌≡◌, ℕ, zero, suc, ◌<◌, ◌^◌, Bool, true, false, ◌&&◌, List, [], ◌∷◌, slice_get, Option, Some, None, IsTrue, refl}
+use Rattle.std.proofs.Common.{◌≡◌, ℕ, zero, suc, ◌^◌, Bool, true, false, ◌&&◌, List, [], ◌∷◌, slice_get, Some, IsTrue, refl}
 use Rattle.std.proofs.lemmas.Bool.{ltb-true}
 use Rattle.rtl_tree.specs.declared.cells.Cell.TheVariants.{Hard, Temp, Flag, Pc, Input, Output, Halt, Hole as HoleCell}
 use Rattle.rtl_tree.specs.Trees.{Tree, Number, Symbol, CodeLabel, Read, Load, Unary, Binary, NoPair, AnyNumber, AnyName}
@@ -8,7 +8,7 @@ use Rattle.md_rows.specs.declared.row.Hole.{Hole}
 use Rattle.md_rows.specs.declared.row.Hole.TheVariants.{Reg as RegHole, Num as NumHole, Sym as SymHole, Label as LabelHole}
 use Rattle.md_rows.specs.declared.instance.Bound.{Bound}
 use Rattle.md_rows.specs.declared.instance.Bound.TheVariants.{Reg, Num, Sym, Label}
-use Rattle.md_rows.specs.Fits.{is_in, fits}
+use Rattle.md_rows.specs.Fits.{fits}
 use Rattle.md_rows.specs.Instances.{AllFit}
 use Rattle.md_match.specs.Searches.{goal_tree}
 use Rattle.md_covers.specs.Covers.{is_register_hole, is_number_hole, is_name_hole, IsRowTree, IsRowMove}

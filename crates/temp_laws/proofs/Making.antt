@@ -1,8 +1,8 @@
 -- What makes a transfer of a shape: the row of an accepted description, its binding, and which of its assignments take the shape's.
-use Rattle.std.proofs.Common.{◌≡◌, ◌⊎◌, inl, inr, ℕ, zero, suc, ◌<◌, Bool, true, false, ◌&&◌, List, [], ◌∷◌, map, slice_get, get_or, Some, None, All, refl, sym, subst, ap, ◌∙◌}
+use Rattle.std.proofs.Common.{◌≡◌, ◌⊎◌, inl, inr, ℕ, zero, suc, Bool, true, false, List, [], ◌∷◌, map, slice_get, get_or, Some, All, refl, sym, subst, ap, ◌∙◌}
 use Rattle.rtl_word.specs.Words.{IsWordSize}
 use Rattle.rtl_tree.specs.Moves.{Move}
-use Rattle.rtl_tree.specs.WellFormed.{IsPlaced, IsWellFormed}
+use Rattle.rtl_tree.specs.WellFormed.{IsWellFormed}
 use Rattle.rtl_tree.proofs.Equality.{and_left, and_right}
 use Rattle.rtl_norm.specs.Transfers.{norm_move, norm_moves, IsMoveFitting}
 use Rattle.md_rows.specs.declared.description.RawDescription.{RawDescription}

@@ -1,5 +1,5 @@
 -- The cells that a transfer of a shape names.
-use Rattle.std.proofs.Common.{◌≡◌, ◌⊎◌, inl, inr, ℕ, zero, suc, ◌<◌, Bool, true, false, not, ◌&&◌, ◌||◌, List, [], ◌∷◌, length, slice_get, Option, Some, None, All, refl, sym, subst, ap, arith, ◌∙◌}
+use Rattle.std.proofs.Common.{◌≡◌, ◌⊎◌, inl, inr, ℕ, ◌<◌, Bool, true, false, not, ◌||◌, List, length, slice_get, Option, Some, None, refl, sym, subst, ap, arith, ◌∙◌}
 use Rattle.std.specs.Prelude.{◌==◌}
 use Rattle.std.proofs.lemmas.Bool.Decides.{nat_tests}
 use Rattle.rtl_tree.specs.declared.cells.Cell.{Cell}
@@ -18,16 +18,15 @@ use Rattle.rtl_norm_form.proofs.Flags.{norm_tested}
 use Rattle.md_rows.specs.declared.instance.Bound.{Bound}
 use Rattle.md_rows.specs.declared.instance.Bound.TheVariants.{Reg, Num, Sym, Label}
 use Rattle.md_rows.specs.Fits.{is_in}
-use Rattle.md_rows.specs.Instances.{held_by, filled, filled_cell, filled_goal, filled_move, general_set}
-use Rattle.md_match.specs.Searches.{Marks, goal_tree, names_none, occurs_by, occurs_in_move}
-use Rattle.md_match.specs.Does.{IsMarked, AllTraps, IsPartOfMarked, IsHoleOfMarked, IsAlikeMove, has_hole}
+use Rattle.md_rows.specs.Instances.{filled, filled_cell, filled_goal, filled_move, general_set}
+use Rattle.md_match.specs.Searches.{goal_tree, names_none, occurs_by, occurs_in_move}
+use Rattle.md_match.specs.Does.{AllTraps, IsPartOfMarked, has_hole}
 use Rattle.md_shapes.specs.Shapes.{shape_moves}
 use Rattle.md_covers.specs.Covers.{IsRowTree, IsRowMove}
 use Rattle.md_covers.proofs.Normal.{norm_row, row_below}
 use Rattle.md_said.specs.Sound.{SaidIsSound}
 use Rattle.md_bounds.specs.Bounds.{SaidIsBounded}
 use Rattle.md_filled.specs.Held.{IsRegister, IsWord, IsName, IsHeld}
-use Rattle.md_filled.specs.Doing.{IsHeldMove}
 use Rattle.md_filled.proofs.Rewriting.{register_is, word_is, name_is, norm_held}
 use Rattle.md_filled.proofs.Sorted.{and_true}
 use Rattle.md_filled.proofs.Alike.{alike_load}
@@ -37,7 +36,7 @@ use Rattle.md_filled.proofs.Doing.{all_at, move_held as norm_move_held}
 use Rattle.temp_machine.specs.Cells.{some_cell, some_goal_cell, sets_by, some_read, some_set, mentions, reads}
 use Rattle.temp_laws.specs.Keeping.{IsOfOperands, SetsAreShapes, SetsAreKept, NamesAreShapes, FlagsAreShapes}
 use Rattle.temp_laws.proofs.Making.{Makes, made_of, normal, Taking, Idling, held_at, kind, marked_takes, comes_from}
-use Rattle.temp_laws.proofs.Places.{SamePlace, place_same, to_cell, each_false, none_by, sets_kept, sets_equal}
+use Rattle.temp_laws.proofs.Places.{place_same, to_cell, each_false, none_by, sets_kept, sets_equal}
 use Rattle.temp_laws.proofs.Cells.{alike_cells, taken_cells, norm_filled_cells}
 
 clash : false ≡ true → ⊥

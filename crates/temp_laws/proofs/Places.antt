@@ -18,7 +18,7 @@ use Rattle.md_filled.proofs.Alike.{alike_read, alike_load}
 use Rattle.md_filled.proofs.Lookups.{Among}
 use Rattle.md_filled.proofs.Partner.{memory_is}
 use Rattle.temp_machine.specs.Cells.{sets_by, some_set}
-use Rattle.temp_laws.proofs.Making.{Makes, Taking, Idling, held_at, kind, taker, comes_from, made}
+use Rattle.temp_laws.proofs.Making.{Makes, held_at, kind, taker, comes_from, made}
 
 -- a cell and the same cell, or memory and memory
 pub data SamePlace : Goal → Goal → Type 0 where

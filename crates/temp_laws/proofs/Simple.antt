@@ -1,8 +1,8 @@
 -- The transfers of shapes assign no cell twice, and jump where no number says.
-use Rattle.std.proofs.Common.{◌≡◌, ◌⊎◌, inl, inr, ℕ, zero, suc, List, [], ◌∷◌, slice_get, Option, Some, None, refl, sym, subst, ap, ◌∙◌}
+use Rattle.std.proofs.Common.{◌≡◌, ℕ, zero, suc, List, [], ◌∷◌, slice_get, Option, Some, None, refl, sym, subst, ap, ◌∙◌}
 use Rattle.rtl_word.specs.declared.Rel.{Rel}
 use Rattle.rtl_tree.specs.declared.cells.Cell.{Cell}
-use Rattle.rtl_tree.specs.declared.cells.Cell.TheVariants.{Hard, Temp, Pc}
+use Rattle.rtl_tree.specs.declared.cells.Cell.TheVariants.{Hard, Pc}
 use Rattle.rtl_tree.specs.declared.cells.Lab.{Lab}
 use Rattle.rtl_tree.specs.declared.expressions.Width.{Width}
 use Rattle.rtl_tree.specs.Trees.{Tree}

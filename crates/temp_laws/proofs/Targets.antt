@@ -1,5 +1,5 @@
 -- The registers of the roles are different, and none of them is general.
-use Rattle.std.proofs.Common.{◌≡◌, ◌⊎◌, inl, inr, ℕ, zero, suc, ◌<◌, ◌^◌, Bool, true, false, List, [], ◌∷◌, length, max, slice_get, Option, Some, None, All, refl, sym, subst, ap, arith, ◌∙◌}
+use Rattle.std.proofs.Common.{◌≡◌, ℕ, suc, ◌<◌, Bool, true, false, List, [], ◌∷◌, max, slice_get, Option, Some, None, All, refl, sym, subst, ap, arith, ◌∙◌}
 use Rattle.std.specs.Prelude.{◌≢◌, ◌==◌, nat_lt, if◌then◌else◌, AllPairs, slice_index_or}
 use Rattle.std.specs.Int.{bit_at}
 use Rattle.std.proofs.lemmas.Bool.Decides.{nat_tests}
@@ -75,16 +75,16 @@ ordered i j = by (nat_lt i j) (nat_lt j i) refl refl
     by false false e f = same (grind (arith, nat_tests, e, f))
 
 apart : (rs : List Register) → Differ rs → (i j : ℕ) (r s : Register) → slice_get rs i ≡ Some r → slice_get rs j ≡ Some s → (r.role ≡ s.role → ⊥) → r.number ≢ s.number
-apart rs h i j r s e f no = by (ordered i j)
+apart rs h i j r s e f unlike = by (ordered i j)
   where
     by : Order i j → r.number ≢ s.number
     by (before l) = in_order rs h i j r s l e f
     by (behind l) = λ q. in_order rs h j i s r l f e (sym q)
-    by (same k) = absurd (no (ap (λ (x : Register). x.role) (some_same r s (sym e ∙ (ap (slice_get rs) k ∙ f)))))
+    by (same k) = absurd (unlike (ap (λ (x : Register). x.role) (some_same r s (sym e ∙ (ap (slice_get rs) k ∙ f)))))
 
 roles_differ : (rs : List Register) (a b : Role) (m n : ℕ) → Differ rs → (a ≡ b → ⊥) → HasRole rs a m → HasRole rs b n → m ≢ n
-roles_differ rs a b m n h no x y q =
-    apart rs h x.place y.place x.register y.register x.has y.has (λ e. no (sym x.role_is ∙ (e ∙ y.role_is))) (x.number ∙ (q ∙ sym y.number))
+roles_differ rs a b m n h unlike x y q =
+    apart rs h x.place y.place x.register y.register x.has y.has (λ e. unlike (sym x.role_is ∙ (e ∙ y.role_is))) (x.number ∙ (q ∙ sym y.number))
 
 -- a number that no general register has
 
@@ -106,10 +106,10 @@ bits_gone n (r ∷ rs) small other =
 
 not_general : (rs : List Register) (role : Role) (n : ℕ) → Differ rs → All (λ r. r.number < 64) rs → general_bits rs ≡ general_set rs → (role ≡ General → ⊥)
     → HasRole rs role n → is_in (general_set rs) n ≡ false
-not_general rs role n h small sum no x =
+not_general rs role n h small sum unlike x =
     ap (λ (k : ℕ). k == 1) (ap (λ (g : ℕ). bit_at g n) (sym sum)
     ∙ bits_gone n rs (λ j r e. all_at (λ r. r.number < 64) rs j r small e)
-    (λ j r e g q. apart rs h x.place j x.register r x.has e (λ k. no (sym x.role_is ∙ (k ∙ g))) (x.number ∙ q)))
+    (λ j r e g q. apart rs h x.place j x.register r x.has e (λ k. unlike (sym x.role_is ∙ (k ∙ g))) (x.number ∙ q)))
 
 -- what a description fixes
 

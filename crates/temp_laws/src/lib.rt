@@ -107,7 +107,6 @@ pub fn flags_are_shapes()
 }
 
 /// An accepted description covers each required shape.
-#[tactic(auto, using(crate::proofs::Covered::required_covered))]
 pub fn required_covered()
     ensures { RequiredAreCovered }
 {}

@@ -177,14 +177,14 @@ module _ (w : ℕ) (d : RawDescription) (t : ShapeRows) (c : IsChecked w d) (h :
     | inl a ↦ inl (pattern_covered d (shape 20 0 r 0) (Branch r) refl a)
     | inr m ↦ elim (searched (λ j. IsCovered d (shape 20 1 Eq j) × IsCovered d (shape 20 2 r j))
         (λ j l. both_decided _ _ (comparing j l) (flagged r j l)) 8 (omega arith)) [
-      | inl x ↦ inr (record {
-        flag = x.0;
-        is_flag = x.1;
-        compares = pattern_covered d (shape 20 1 Eq x.0) (Compare x.0) refl x.2.0;
-        jumps = pattern_covered d (shape 20 2 r x.0) (BranchByFlag r x.0) refl x.2.1;
-      })
-      | inr n ↦ absurd (not_missing w d 20 c refl (λ s. elim (s.branching refl r) [ inl x ↦ m x | inr y ↦ n y.flag y.is_flag (y.compares, y.jumps) ]))
-    ]
+          | inl x ↦ inr (record {
+            flag = x.0;
+            is_flag = x.1;
+            compares = pattern_covered d (shape 20 1 Eq x.0) (Compare x.0) refl x.2.0;
+            jumps = pattern_covered d (shape 20 2 r x.0) (BranchByFlag r x.0) refl x.2.1;
+          })
+          | inr n ↦ absurd (not_missing w d 20 c refl (λ s. elim (s.branching refl r) [ inl x ↦ m x | inr y ↦ n y.flag y.is_flag (y.compares, y.jumps) ]))
+        ]
   ]
 
 pub required_covered : RequiredAreCovered

@@ -100,8 +100,10 @@ calls m (Some z) l =
     more _ _ (record { cells = λ c e f. hard_is_no_counter z c e f; stores = λ d f a b e h. no_store _ d a e }, tt) (λ e. absurd (hard_is_no_counter z Pc e refl))
     (one _ (λ e. tt))
 calls m None l =
-    more _ _ (record { cells = λ c e f. no_cell _ _ c e; stores = λ d f a b e h. no_store _ f b h },
-    (record { cells = λ c e f. no_cell _ _ c e; stores = λ d f a b e h. no_store _ f b h }, tt))
+    more _ _ (
+      record { cells = λ c e f. no_cell _ _ c e; stores = λ d f a b e h. no_store _ f b h },
+      (record { cells = λ c e f. no_cell _ _ c e; stores = λ d f a b e h. no_store _ f b h }, tt),
+    )
     (λ e. absurd (no_cell _ _ Pc e))
     (more _ _ (record { cells = λ c e f. hard_is_no_counter m.stack c e f; stores = λ d f a b e h. no_store _ d a e }, tt) (λ e. absurd (hard_is_no_counter m.stack Pc e refl))
     (one _ (λ e. tt)))

@@ -82,7 +82,7 @@ module _ (m : Frame) (g : ℕ) (p : Open) (a : IsGeneral g p.a) where
   sets_a : (same_cell Pc p.a || false) ≡ false
   sets_a = ap (λ (b : Bool). b || false) (no_counter g p.a a)
 
-  body_sets : (q : Pattern) → ends_block q ≡ false → some_set (same_cell Pc) (shape_moves m q p) ≡ false
+  pub body_sets : (q : Pattern) → ends_block q ≡ false → some_set (same_cell Pc) (shape_moves m q p) ≡ false
   body_sets shape.Copy e = sets_a
   body_sets shape.SetNumber e = sets_a
   body_sets shape.SetSymbol e = sets_a

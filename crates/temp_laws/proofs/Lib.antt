@@ -9,3 +9,4 @@ pub mod Cells
 pub mod Names
 pub mod Covered
 pub mod Targets
+pub mod Conditions

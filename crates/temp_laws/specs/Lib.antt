@@ -3,3 +3,4 @@ pub mod Going
 pub mod Keeping
 pub mod Covered
 pub mod Targets
+pub mod Conditions

@@ -26,6 +26,7 @@ use Rattle.temp_laws.specs.Keeping.{IsOfOperands}
 use Rattle.temp_laws.specs.Targets.{target_of}
 use Rattle.temp_laws.specs.Conditions.{on_temporaries, moves_stack, reads_flag, ConditionsAreKept}
 use Rattle.temp_laws.proofs.Doing.{body_sets}
+use Rattle.temp_laws.proofs.Room.{least_room}
 use Rattle.temp_laws.proofs.Targets.{BitsAreSum, targets_sound}
 use Rattle.temp_laws.proofs.Names.{sets_are_shapes, names_are_shapes, flags_are_shapes}
 
@@ -277,6 +278,8 @@ module _ (sound : SaidIsSound) (limited : SaidIsLimited) (bounded : SaidIsBounde
       let target = targets_sound sound limited bounded sums w d frame [] c is (All-nil (λ k. is_in (general_set d.registers) k ≡ true)) none_apart in
       let sets = sets_are_shapes sound bounded w d frame q at t c h in
       let names = names_are_shapes sound bounded w d frame q at t c h in
+      let operands : (n : ℕ) → mentions (same_cell (Temp n)) t.what ≡ true → (n ≡ a) ⊎ (n ≡ b) = λ n e. one_of n a b (λ f g. unlike (sym e ∙ names (same_cell (Temp n)) (temporary_operands (general_set d.registers) n)
+      (shape_names frame a b number symbol label (same_cell (Temp n)) (temporary_gone frame a b n f g) q))) in
       record {
         counter = λ e. sets (same_cell Pc) (λ n. refl) ∙ body_sets frame 0 at tt q e;
         ends = λ e. sets is_temporary (λ n. refl) ∙ shape_ends frame a b number symbol label q e;
@@ -284,7 +287,7 @@ module _ (sound : SaidIsSound) (limited : SaidIsLimited) (bounded : SaidIsBounde
             ∙ shape_stack frame a b number symbol label q target.stack_is_no_result target.stack_is_no_link e;
         general = names (is_hard_among (λ k. is_in (general_set d.registers) k)) (general_operands (general_set d.registers))
             (shape_names frame a b number symbol label (is_hard_among (λ k. is_in (general_set d.registers) k)) (general_gone d frame a b target) q);
-        temporaries = λ n e. one_of n a b (λ f g. unlike (sym e ∙ names (same_cell (Temp n)) (temporary_operands (general_set d.registers) n)
-            (shape_names frame a b number symbol label (same_cell (Temp n)) (temporary_gone frame a b n f g) q)));
+        temporaries = operands;
         flags = λ n e. flags_are_shapes sound bounded w d frame q at t c h n (shape_flags frame a b number symbol label n q e);
+        room = least_room a b t.what operands;
       }

@@ -13,7 +13,7 @@ use Rattle.md_shapes.specs.Shapes.{Frame, Open}
 use Rattle.md_covers.specs.Covers.{frame_in}
 use Rattle.md_check.specs.Checking.{IsChecked}
 use Rattle.temp_machine.specs.Cells.{sets, reads, mentions, is_hard_among}
-use Rattle.temp_machine.specs.Tidy.{sets_temporary}
+use Rattle.temp_machine.specs.Tidy.{sets_temporary, room_of}
 use Rattle.temp_code.specs.declared.code.Transfer.{Transfer}
 use Rattle.temp_shapes.specs.Elementary.{IsTransferOf}
 use Rattle.temp_laws.specs.Doing.{ends_block}
@@ -33,7 +33,7 @@ reads_flag n (BranchByFlag r j) = n == j
 reads_flag n _ = false
 
 -- in the body of a block it doesn't set the program counter, and at its end no temporary; few shapes move the stack; it names no general
--- register, and no temporaries but the two; and it reads no flag but that of a branch
+-- register, and no temporaries but the two, so it has the least room; and it reads no flag but that of a branch
 pub record KeepsConditions (d : RawDescription) (frame : Frame) (pattern : Pattern) (a b : ℕ) (ms : List Move) : Type 0 where
   pub counter : ends_block pattern ≡ false → sets Pc ms ≡ false
   pub ends : ends_block pattern ≡ true → sets_temporary ms ≡ false
@@ -41,6 +41,7 @@ pub record KeepsConditions (d : RawDescription) (frame : Frame) (pattern : Patte
   pub general : mentions (is_hard_among (λ k. is_in (general_set d.registers) k)) ms ≡ false
   pub temporaries : (n : ℕ) → mentions (same_cell (Temp n)) ms ≡ true → (n ≡ a) ⊎ (n ≡ b)
   pub flags : (n : ℕ) → reads_flag n pattern ≡ false → reads (Flag n) ms ≡ false
+  pub room : room_of ms ≡ 5
 
 abbrev pub ConditionsAreKept : Type 0
 ConditionsAreKept =

@@ -19,7 +19,8 @@ use Rattle.md_filled.specs.Doing.{DoesAs, IsSimple}
 use Rattle.md_filled.proofs.Doing.{row_does_as}
 use Rattle.temp_machine.specs.Cells.{sets_by, some_set}
 use Rattle.temp_laws.specs.Doing.{ends_block, TransfersDoShapes, BodiesDoShapes}
-use Rattle.temp_laws.proofs.Making.{Makes, made_of, checked_size, row_filled}
+use Rattle.temp_shapes.proofs.Roles.{checked_size}
+use Rattle.temp_laws.proofs.Making.{Makes, made_of, row_filled}
 use Rattle.temp_laws.proofs.Places.{sets_equal}
 use Rattle.temp_laws.proofs.Simple.{shape_simple}
 

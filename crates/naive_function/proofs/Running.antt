@@ -182,9 +182,12 @@ module _ (t : Target) (u : Image) (m : Fixed) (source : Typed) (fixed : IsFixedB
         given_rep t u m source f k ready vs statics input count typed d (h.stack ∙ stack_is) (h.input ∙ read_is) are
         (statics_same t u source m machine.target.size unit begins.view.bytes d.view.bytes statics (λ b lt. h.bytes b) statics_there) h.set
 
+    abbrev pub Ends_back : Spot → Flow → State → Point → Type 0
+    Ends_back spot fl s z = Back t u m source f k ready begins (value_at (is_main f) spot fl) s z
+
     -- from its first point on
     pub runs : (d most : ℕ) → d ≤ most → (call : SourceCalls) → CallsDo t u m source f k ready d call → (spot : Spot)
-        → Does t u d begins (λ fl s z. Back t u m source f k ready begins (value_at (is_main f) spot fl) s z)
+        → Does t u d begins (Ends_back spot)
           ((execution (record { bits = t.word; kind = kind_in source f; call = call }) most f.body).does (record { statics = statics; params = given vs; locals = blank; input = input }))
     runs d most le call calls spot =
         let expands = ready.expands in
@@ -195,13 +198,12 @@ module _ (t : Target) (u : Image) (m : Fixed) (source : Typed) (fixed : IsFixedB
         let parts = stands_split t u m k enter (run ++ ending (is_main f) a) (record { block = 0; at = 0 }) expands.last expands.stands in
         let inner = stands_split t u m k run (ending (is_main f) a) parts.0 expands.last parts.2 in
         let s = given_state t u m source f k ready vs statics input count typed in
-        let Whole = λ fl s z. Back t u m source f k ready begins (value_at (is_main f) spot fl) s z in
         let does = (execution (record { bits = t.word; kind = kind_in source f; call = call }) most f.body).does in
-        to_does t u m source f k ready d parts.0 Loaded_all Whole begins (does s)
+        to_does t u m source f k ready d parts.0 Loaded_all (Ends_back spot) begins (does s)
         (loads t u m source f k ready from (frame_end t u m source fixed machine sound unit g f callers from used e) e.aligned room vs (length f.params) 0 (record { block = 0; at = 0 }) parts.0 begins count (omega arith)
         (entered_inside t u m source fixed machine sound unit g f callers from used e bytes read out) (record { block = refl; at = refl }) stack_is words_there (λ x v lt is. absurd (omega (arith, lt))) parts.1)
         (λ c h. h.printed)
         (λ c i at h.
-        does_further t u d c (Left_so t u m source f k ready inner.0 c) Whole (does s)
+        does_further t u d c (Left_so t u m source f k ready inner.0 c) (Ends_back spot) (does s)
         (bodies f k ready d call calls most le (is_sound_here t u m source fixed machine sound unit g f callers from used e) (scalar_count f) (ready.label + 1) parts.0 inner.0 c s (omega arith) inner.1 i at (rep_there c h))
         (λ fl s1 z left. ends t u m source f k ready d spot expands.last expands.returns begins c (λ y above. h.bytes y) a (omega arith) inner.0 fl s1 z inner.2 left))

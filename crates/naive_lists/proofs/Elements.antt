@@ -14,7 +14,7 @@ use Rattle.c_meaning.specs.Operators.{as_type}
 use Rattle.c_meaning.specs.Parts.{State, store as stored}
 use Rattle.c_meaning.specs.Expressions.{array, type_in, World, Lvalue, meaning, as_object}
 use Rattle.c_meaning.specs.Run.{kind_in}
-use Rattle.c_meaning.specs.Statements.{next, elements, initialised}
+use Rattle.c_meaning.specs.Statements.{Flow, next, elements, initialised}
 use Rattle.temp_machine.specs.Routines.{Image, Target}
 use Rattle.temp_machine.specs.Live.{Place}
 use Rattle.temp_machine.specs.Small.{Point}
@@ -121,11 +121,14 @@ module _ (t : Target) (u : Image) (m : Fixed) (source : Typed) (f : Function) (k
       as_element : (y : ℕ) → as_type t.word by y ≡ y → as_object w (variable.Local x) y ≡ y
       as_element y typed = ap (λ b. as_type b (type_in (w.kind (variable.Local x))) y) bits ∙ (ap (λ g. as_type t.word (type_in g) y) same_kind ∙ typed_so y typed)
 
+      abbrev Past_at : Place → Point → Flow → State → Point → Type 0
+      Past_at q c fl s d = Past t u m source f k ready q c s d
+
       -- from the i-th on
       elements_from : (es : List TypedExpr) (i : ℕ) → i + length es ≤ size → All_listed es
           → PastDo t u m source f k ready n (elements w x i es) (put_elements (site_of t.kept t.word source f) (Elements (Frame offset) by) i es)
       elements_from [] i room all a first label p q c s fresh last inside at rep =
-          there t u n c (λ fl s d. Past t u m source f k ready q c s d) next s (record { inside = inside; at = subst (λ z. At t u z c) (sym last) at; rep = rep; above = λ b from. refl })
+          there t u n c (Past_at q c) next s (record { inside = inside; at = subst (λ z. At t u z c) (sym last) at; rep = rep; above = λ b from. refl })
       elements_from (e ∷ es) i room all a first label p q c s fresh ops inside at rep =
           let v = naive_of e in
           let spare = first + v.temps in
@@ -133,17 +136,16 @@ module _ (t : Target) (u : Image) (m : Fixed) (source : Typed) (f : Function) (k
           let later = first + (v.temps + 2) in
           let rest = (put_elements (site_of t.kept t.word source f) (Elements (Frame offset) by) (suc i) es).ops a later (label + v.labels) in
           let parts = stands_split t u m k (v.ops first label ++ put) rest p q ops in
-          let Whole = λ fl s d. Past t u m source f k ready q c s d in
-          value_then t u m source f k ready n (meaning w e).of v (meaning w e).value all.0.does put Whole (λ y s1. elements w x (suc i) es (initialised w x i y s1)) first label p parts.0 c s fresh parts.1 inside at rep
+          value_then t u m source f k ready n (meaning w e).of v (meaning w e).value all.0.does put (Past_at q c) (λ y s1. elements w x (suc i) es (initialised w x i y s1)) first label p parts.0 c s fresh parts.1 inside at rep
           (λ r d y s1 ops' h.
           let value = h.value in
           let typed : as_type t.word by y ≡ y = sym (as_alike t.word (meaning w e).of by y all.0.same) ∙ value.1 in
           let lt : i < size = omega (arith, room) in
-          to_does t u m source f k ready n parts.0 (Put_in (stored s1 (variable.Local x) i (Some y)) d) Whole d (elements w x (suc i) es (initialised w x i y s1))
+          to_does t u m source f k ready n parts.0 (Put_in (stored s1 (variable.Local x) i (Some y)) d) (Past_at q c) d (elements w x (suc i) es (initialised w x i y s1))
           (puts_element i spare (v.result first) y r parts.0 d s1 lt (omega (arith, fresh)) (all.0.fresh.to first) h.inside h.at h.rep value.0 typed value.2 ops') (λ b g. g.printed)
           (λ b j at' g.
           let rep' = subst (λ z. Stands_for t u m source f k ready (stored s1 (variable.Local x) i (Some z)) b) (sym (as_element y typed)) g.rep in
-          does_on t u n b (λ fl s2 z. Past t u m source f k ready q b s2 z) Whole (elements w x (suc i) es (initialised w x i y s1))
+          does_on t u n b (Past_at q b) (Past_at q c) (elements w x (suc i) es (initialised w x i y s1))
           (elements_from es (suc i) (omega (arith, room)) all.1 a later (label + v.labels) parts.0 q b (initialised w x i y s1) (omega (arith, fresh)) parts.2 j at' rep')
           (λ fl s2 z o. past_since t u m source f k ready q c b s2 z (λ z' from. g.above z' from ∙ h.since.above z' from) o)))
 

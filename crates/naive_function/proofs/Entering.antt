@@ -1,6 +1,9 @@
 -- A function is entered: where its frame stands, and what the first point of its run shows.
-use Rattle.std.proofs.Common.{◌≡◌, ℕ, zero, suc, ◌+◌, ◌*◌, ◌-◌, ◌%◌, ◌/◌, ◌≤◌, ◌<◌, ◌⊎◌, inl, inr, List, [], ◌∷◌, Option, Some, None, refl, ap, ◌∙◌, subst, arith, true, false}
-use Rattle.std.specs.Prelude.{Bool, if◌then◌else◌, ◌||◌, not, nat_le, slice_get, length, unwrap_or}
+use Rattle.std.proofs.Common.{◌≡◌, ℕ, zero, suc, ◌+◌, ◌*◌, ◌-◌, ◌%◌, ◌/◌, ◌^◌, ◌≤◌, ◌<◌, ◌⊎◌, inl, inr, List, [], ◌∷◌, Option, Some, None, refl, ap, ◌∙◌, subst, arith, true, false}
+use Rattle.std.specs.Prelude.{Bool, if◌then◌else◌, ◌==◌, ◌||◌, not, nat_le, slice_get, slice_index, length, unwrap_or, All}
+use Rattle.std.proofs.lemmas.List.Elements.{All-head, All-tail}
+use Rattle.std.proofs.lemmas.Nat.{pow_pos}
+use Rattle.behaviour.specs.Run.{AreBytes}
 use Rattle.std.specs.List.{list_all}
 use Rattle.std.proofs.lemmas.Bool.Decides.{nat_tests}
 use Rattle.rtl_word.specs.Words.{IsWordSize}
@@ -17,6 +20,7 @@ use Rattle.temp_machine.specs.Machine.{State, Waiting, may_touch, taken_by_calle
 use Rattle.temp_machine.specs.Small.{Point, first_point}
 use Rattle.naive_run.specs.Law.{IsFixedBy, IsUnitOf, IsSoundTarget, Expands}
 use Rattle.naive_run.specs.Sound.{left_of, is_scalar, is_scalar_by, is_sound, is_sound_function}
+use Rattle.naive_step.proofs.Words.{HoldsWords, words_in}
 use Rattle.naive_step.proofs.Making.{Call, Inside}
 use Rattle.naive_assigned.proofs.Areas.{bytes_are}
 use Rattle.naive_assigned.proofs.Ready.{Ready}
@@ -123,12 +127,17 @@ not_between low high a (inr le) = grind (arith, nat_tests, le)
 outside_bytes : (low high a : ℕ) (bytes : ℕ → Option ℕ) → (a < low) ⊎ (high ≤ a) → unset_between low high bytes a ≡ bytes a
 outside_bytes low high a bytes out = ap (λ b. if b then None else bytes a) (not_between low high a out)
 
+pub index_small : (most : ℕ) (xs : List ℕ) (i : ℕ) → 0 < most → All (λ a. a < most) xs → slice_index xs i < most
+index_small most [] i some all = some
+index_small most (x ∷ xs) zero some all = All-head (λ a. a < most) x xs all
+index_small most (x ∷ xs) (suc i) some all = index_small most xs i some (All-tail (λ a. a < most) x xs all)
+
 -- ---- the first point of a block
 
 module _ (t : Target) (u : Image) (k : Call) where
   -- of a state whose active call this is
-  pub first_inside : (s : State) → s.top.function ≡ k.function → s.top.base ≡ k.base → s.callers ≡ k.callers → Inside t u k (first_point t u s)
-  first_inside s function base callers = record {
+  pub first_inside : (s : State) → IsWordSize t.word → All (λ a. a < 2 ^ t.word) u.symbols → s.top.function ≡ k.function → s.top.base ≡ k.base → s.callers ≡ k.callers → HoldsWords t u s → Inside t u k (first_point t u s)
+  first_inside s size symbols function base callers has = record {
     function = function;
     base = base;
     callers = callers;
@@ -141,6 +150,8 @@ module _ (t : Target) (u : Image) (k : Call) where
       targets = λ l. refl;
       counter = refl;
       input = refl;
+      words = words_in t u s size (λ n. index_small (2 ^ t.word) u.symbols n (pow_pos t.word) symbols) has;
+      fed = has.fed;
     };
   }
 
@@ -190,7 +201,7 @@ module _ (t : Target) (u : Image) (m : Fixed) (source : Typed) (fixed : IsFixedB
 
     pub entered_ready : Ready t u m source f entered_call
     entered_ready = record {
-      fits = record { fits = le_so ((u.routines g).frame + t.word / 8 + taken_by_callers t u callers) t.stack (let stack = stack_suffices in let frame = expanded.frame in omega (arith, stack, frame)) };
+      fits = record { size = size; fits = le_so ((u.routines g).frame + t.word / 8 + taken_by_callers t u callers) t.stack (let stack = stack_suffices in let frame = expanded.frame in omega (arith, stack, frame)) };
       target = machine.target;
       fixed = fixed;
       unit = unit;
@@ -219,8 +230,24 @@ module _ (t : Target) (u : Image) (m : Fixed) (source : Typed) (fixed : IsFixedB
       abbrev pub first : Point
       first = first_point t u (entered t u g callers from bytes input out)
 
-      pub entered_inside : Inside t u entered_call first
-      entered_inside = first_inside t u entered_call (entered t u g callers from bytes input out) refl refl refl
+      register_small : (b : Bool) (n : ℕ) → (if b then Some entered_call.base else None) ≡ Some n → n < 2 ^ t.word
+      register_small true n is =
+          let same : entered_call.base ≡ n = ap (λ o. unwrap_or o n) is in
+          let end = frame_end in let high = e.high in let memory = machine.target.memory in
+          omega (arith, same, end, high, memory)
+      register_small false n is = absurd (grind (arith, is))
+
+      byte_small : (b : Bool) (a n : ℕ) → ((a n : ℕ) → bytes a ≡ Some n → n < 256) → (if b then None else bytes a) ≡ Some n → n < 256
+      byte_small true a n small is = absurd (grind (arith, is))
+      byte_small false a n small is = small a n is
+
+      pub entered_inside : ((a n : ℕ) → bytes a ≡ Some n → n < 256) → AreBytes input → Inside t u entered_call first
+      entered_inside small fed = first_inside t u entered_call (entered t u g callers from bytes input out) size machine.symbols refl refl refl (record {
+        registers = λ j n is. register_small (j == t.sp) n is;
+        temps = λ j n is. absurd (grind (arith, is));
+        bytes = λ a n is. byte_small (is_between entered_call.base from a) a n small is;
+        fed = fed;
+      })
 
       pub bytes_below : (b : ℕ) → b < t.base + length u.bytes → first.view.bytes b ≡ bytes b
       bytes_below b lt = outside_bytes entered_call.base from b bytes (inl (let down = deep in omega (arith, down, lt)))

@@ -1,12 +1,12 @@
 -- A function returns: its caller goes on behind the call, with its own objects.
-use Rattle.std.proofs.Common.{◌≡◌, ◌≢◌, ℕ, suc, ◌+◌, ◌*◌, ◌≤◌, List, [], ◌∷◌, Option, Some, None, refl, sym, ap, ◌∙◌, subst, arith, true, false}
-use Rattle.std.specs.Prelude.{Bool, ◌==◌, slice_get, length, take, All}
+use Rattle.std.proofs.Common.{◌≡◌, ◌≢◌, ℕ, suc, ◌+◌, ◌*◌, ◌^◌, ◌≤◌, ◌<◌, List, [], ◌∷◌, Option, Some, None, refl, sym, ap, ◌∙◌, subst, arith, true, false}
+use Rattle.std.specs.Prelude.{Bool, if◌then◌else◌, ◌==◌, slice_get, length, take, unwrap_or, All}
 use Rattle.std.specs.List.{list_any}
 use Rattle.std.proofs.lemmas.Bool.Decides.{nat_tests}
 use Rattle.std.proofs.lemmas.List.Elements.{All-head, All-tail}
 use Rattle.behaviour.specs.Steps.{Goes, Comes}
 use Rattle.behaviour.proofs.Stepping.{comes_one}
-use Rattle.rtl_tree.specs.declared.cells.Cell.TheVariants.{Hard}
+use Rattle.rtl_tree.specs.declared.cells.Cell.TheVariants.{Hard, Temp}
 use Rattle.md_shapes.specs.Shapes.{Frame as Fixed}
 use Rattle.c_tree.specs.declared.typed.Variable.{Variable}
 use Rattle.c_tree.specs.declared.typed.Variable.TheVariants as variable
@@ -25,6 +25,7 @@ use Rattle.temp_machine.specs.Live.{Place, End}
 use Rattle.temp_machine.specs.Small.{Point, first_point, entering, small_step}
 use Rattle.naive_code.specs.Storage.{Temporary, storage_of, local_in, local_storage, arrays_from}
 use Rattle.naive_step.proofs.Doing.{M}
+use Rattle.naive_step.proofs.Words.{HoldsWords}
 use Rattle.naive_step.proofs.Making.{Call, step_is}
 use Rattle.naive_step.proofs.Memory.{word_same}
 use Rattle.naive_rep.proofs.Rep.{Holds, cut_to, told_same}
@@ -53,7 +54,7 @@ not_kept general (k ∷ ks) n all no = by_test (k == n) refl
     by_test false e = rw e (not_kept general ks n (All-tail (λ k. general k ≡ true) k ks all) no)
 
 module _ (t : Target) (u : Image) (m : Fixed) (source : Typed) (f : Function) (k : Call) (ready : Ready t u m source f k) (g : ℕ) (h : Function) (vs : List ℕ) (p : Place) (c : Point) (s : State)
-    (made : Made_call t u m source f k ready g h vs p c s) where
+    (made : Made_call t u m source f k ready g h vs p c s) (symbols : All (λ a. a < 2 ^ t.word) u.symbols) where
   -- the call as it waits
   abbrev pub waiter : Waiting
   waiter = waiting t u c.state c.view c.printed
@@ -126,12 +127,32 @@ module _ (t : Target) (u : Image) (m : Fixed) (source : Typed) (f : Function) (k
     typed_again (variable.Parameter x) i z is = made.rep.typed (variable.Parameter x) i z is
     typed_again (variable.Local x) i z is = made.rep.typed (variable.Local x) i z is
 
+    base_small : (n : ℕ) → Some waiter.active.base ≡ Some n → n < 2 ^ t.word
+    base_small n is =
+        let same : waiter.active.base ≡ n = ap (λ o. unwrap_or o n) is in
+        let base = made.inside.base in let high = ready.high in let memory = ready.target.memory in
+        omega (arith, same, base, high, memory)
+
+    register_small : (sp kept result : Bool) (j n : ℕ) → (if sp then Some waiter.active.base else (if kept then waiter.regs j else (if result then e.view.cells (Hard j) else None))) ≡ Some n → n < 2 ^ t.word
+    register_small true kept result j n is = base_small n is
+    register_small false true result j n is = made.inside.shows.words.cells (Hard j) n is
+    register_small false false true j n is = back.inside.shows.words.cells (Hard j) n is
+    register_small false false false j n is = absurd (grind (arith, is))
+
+    has_words : HoldsWords t u after.state
+    has_words = record {
+      registers = λ j n is. register_small (j == t.sp) (is_kept t j) (j == t.result) j n is;
+      temps = λ j n is. made.inside.shows.words.cells (Temp j) n is;
+      bytes = λ a n is. back.inside.shows.words.bytes a n is;
+      fed = back.inside.shows.fed;
+    }
+
     pub comes_behind : Comes (M t u) e after
     comes_behind = comes_one (M t u) e after returns_step
 
     pub called_so : Called t u m source f k ready f'.result p c v (own_again s1) after
     called_so = record {
-      inside = first_inside t u k after.state made.inside.function made.inside.base made.inside.callers;
+      inside = first_inside t u k after.state ready.target.size symbols made.inside.function made.inside.base made.inside.callers has_words;
       at = record { block = ap suc made.at.block; at = refl };
       rep = record { stack = stack_is; input = back.rep.input; bytes = back.rep.bytes; held = held_again; typed = typed_again };
       temps = λ j. refl;

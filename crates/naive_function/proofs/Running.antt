@@ -157,7 +157,7 @@ module _ (t : Target) (u : Image) (m : Fixed) (source : Typed) (fixed : IsFixedB
   start = first t u m source fixed machine sound unit g f callers from used e
 
   -- the machine's input is the source's
-  module _ (bytes : ℕ → Option ℕ) (read input out vs : List ℕ) (statics : Store) (read_is : read ≡ input) (are : AreBytes input) (held : Statics_in t u source bytes statics) (count : length vs ≡ length f.params)
+  module _ (bytes : ℕ → Option ℕ) (read input out vs : List ℕ) (statics : Store) (small : (a n : ℕ) → bytes a ≡ Some n → n < 256) (read_is : read ≡ input) (are : AreBytes input) (held : Statics_in t u source bytes statics) (count : length vs ≡ length f.params)
       (room : from + word_bytes t.word * length f.params ≤ t.memory) (words : (i v : ℕ) → slice_get vs i ≡ Some v → word_at bytes (from + word_bytes t.word * i) (t.word / 8) ≡ Some v)
       (typed : (i v : ℕ) (o : Object) → slice_get f.params i ≡ Some o → slice_get vs i ≡ Some v → as_type t.word o.element v ≡ v) where
     abbrev begins : Point
@@ -201,7 +201,7 @@ module _ (t : Target) (u : Image) (m : Fixed) (source : Typed) (fixed : IsFixedB
         let does = (execution (record { bits = t.word; kind = kind_in source f; call = call }) most f.body).does in
         to_does t u m source f k ready d parts.0 Loaded_all (Ends_back spot) begins (does s)
         (loads t u m source f k ready from (frame_end t u m source fixed machine sound unit g f callers from used e) e.aligned room vs (length f.params) 0 (record { block = 0; at = 0 }) parts.0 begins count (omega arith)
-        (entered_inside t u m source fixed machine sound unit g f callers from used e bytes read out) (record { block = refl; at = refl }) stack_is words_there (λ x v lt is. absurd (omega (arith, lt))) parts.1)
+        (entered_inside t u m source fixed machine sound unit g f callers from used e bytes read out small (subst AreBytes (sym read_is) are)) (record { block = refl; at = refl }) stack_is words_there (λ x v lt is. absurd (omega (arith, lt))) parts.1)
         (λ c h. h.printed)
         (λ c i at h.
         does_further t u d c (Left_so t u m source f k ready inner.0 c) (Ends_back spot) (does s)

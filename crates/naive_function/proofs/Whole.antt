@@ -1,6 +1,6 @@
 -- Calls do what the source's do, however deep they nest, and so does `main`.
-use Rattle.std.proofs.Common.{◌≡◌, ℕ, zero, suc, ◌+◌, ◌*◌, ◌%◌, ◌/◌, ◌≤◌, List, [], ◌∷◌, Option, Some, None, refl, sym, ap, ◌∙◌, subst, arith, true, false}
-use Rattle.std.specs.Prelude.{Bool, if◌then◌else◌, nat_lt, slice_get, length, unwrap_or}
+use Rattle.std.proofs.Common.{◌≡◌, ℕ, zero, suc, ◌+◌, ◌*◌, ◌-◌, ◌%◌, ◌/◌, ◌≤◌, ◌<◌, List, [], ◌∷◌, Option, Some, None, refl, sym, ap, ◌∙◌, subst, arith, true, false}
+use Rattle.std.specs.Prelude.{Bool, if◌then◌else◌, nat_lt, slice_get, slice_index, length, unwrap_or}
 use Rattle.std.proofs.lemmas.Bool.Decides.{nat_tests}
 use Rattle.std.proofs.Math.Nat.{mul-le-mul_left}
 use Rattle.behaviour.specs.Behaviour.{Overstack}
@@ -18,7 +18,7 @@ use Rattle.c_meaning.specs.Settings.{setting_of}
 use Rattle.c_meaning.specs.Statements.{Flow, next, breaks, continues, returns, Does as SourceDoes, execution}
 use Rattle.c_meaning.specs.Run.{is_main, at_start, value_at, inside, back, enter, taken, world, call_at, status_of, main_in}
 use Rattle.temp_machine.specs.Routines.{Image, Target, Calls, Returns}
-use Rattle.temp_machine.specs.Machine.{Waiting, called, ended, entered, first_byte, if_it_fits, returned, taken_by_callers, begin}
+use Rattle.temp_machine.specs.Machine.{Waiting, called, ended, entered, first_byte, is_in_data, if_it_fits, returned, taken_by_callers, begin}
 use Rattle.temp_machine.specs.Live.{Place, End}
 use Rattle.temp_machine.specs.Small.{Point, first_point, entering, small_step}
 use Rattle.naive_run.specs.Law.{IsFixedBy, IsUnitOf, IsSoundTarget}
@@ -30,7 +30,7 @@ use Rattle.naive_calls.proofs.Calling.{Made_call, Called, CallsDo}
 use Rattle.naive_statements.proofs.Asked.{Back}
 use Rattle.naive_statements.proofs.Loops.{cut_at}
 use Rattle.naive_function.proofs.Statics.{Statics_in, statics_of}
-use Rattle.naive_function.proofs.Entering.{Enters, entered_call, entered_ready, is_sound_here, frame_end, room_left, used_then, bytes_above}
+use Rattle.naive_function.proofs.Entering.{Enters, entered_call, entered_ready, index_small, is_sound_here, frame_end, room_left, used_then, bytes_above}
 use Rattle.naive_function.proofs.Running.{Bodies_do, start, runs}
 use Rattle.naive_function.proofs.Returning.{waiter, behind_call, own_again, comes_behind, called_so}
 
@@ -85,7 +85,7 @@ module _ (t : Target) (u : Image) (m : Fixed) (source : Typed) (fixed : IsFixedB
       (f : Function) (k : Call) (ready : Ready t u m source f k) (used : ℕ) (level : Level f k used) (spot : Spot) (g : ℕ) (h : Function) (vs : List ℕ) (p : Place) (c : Point) (s : State)
       (made : Made_call t u m source f k ready g h vs p c s) where
     abbrev now : List Waiting
-    now = waiter t u m source f k ready g h vs p c s made ∷ c.state.callers
+    now = waiter t u m source f k ready g h vs p c s made machine_is.symbols ∷ c.state.callers
 
     abbrev from : ℕ
     from = c.state.top.base
@@ -134,7 +134,7 @@ module _ (t : Target) (u : Image) (m : Fixed) (source : Typed) (fixed : IsFixedB
 
       body_runs : Does t u d begins (λ fl s1 z. Back t u m source h k' ready' begins (value_at (is_main h) spot fl) s1 z) (body_of most d used_here h (inside vs s))
       body_runs =
-          runs t u m source fixed machine_is sound unit bodies g h now from used e c.view.bytes c.view.input s.input c.printed vs s.statics made.rep.input made.rep.bytes (statics_of t u source k c f s made.rep) made.count
+          runs t u m source fixed machine_is sound unit bodies g h now from used e c.view.bytes c.view.input s.input c.printed vs s.statics made.inside.shows.words.bytes made.rep.input made.rep.bytes (statics_of t u source k c f s made.rep) made.count
           arguments_inside (λ i v is. ap (λ b. word_at c.view.bytes (b + word_bytes t.word * i) (t.word / 8)) made.inside.base ∙ made.words i v is) (λ i v o is it. (made.typed i v o is it).0)
           d most le (call_at setting source most d used_here)
           (deeper h k' ready' used_here (entered_level g h now from used e)) spot
@@ -152,8 +152,8 @@ module _ (t : Target) (u : Image) (m : Fixed) (source : Typed) (fixed : IsFixedB
           (back (is_main h) spot s) body_runs
           (λ fl s1 z b.
           let v = value_at (is_main h) spot fl in
-          came t u d z (behind_call t u m source f k ready g h vs p c s made z) (Called t u m source f k ready h.result p c) v (own_again t u m source f k ready g h vs p c s made s1)
-          (comes_behind t u m source f k ready g h vs p c s made k' h ready' refl begins below kept v s1 z b) refl (called_so t u m source f k ready g h vs p c s made k' h ready' refl begins below kept v s1 z b)))
+          came t u d z (behind_call t u m source f k ready g h vs p c s made machine_is.symbols z) (Called t u m source f k ready h.result p c) v (own_again t u m source f k ready g h vs p c s made machine_is.symbols s1)
+          (comes_behind t u m source f k ready g h vs p c s made machine_is.symbols k' h ready' refl begins below kept v s1 z b) refl (called_so t u m source f k ready g h vs p c s made machine_is.symbols k' h ready' refl begins below kept v s1 z b)))
 
     by_stack : (b : Bool) → nat_lt t.stack (256 + used_here) ≡ b
         → Does t u (suc d) c (Called t u m source f k ready h.result p c) (if b then Fails [] Overstack else then_do (body_of most d used_here h (inside vs s)) (back (is_main h) spot s))
@@ -180,6 +180,13 @@ module _ (t : Target) (u : Image) (m : Fixed) (source : Typed) (fixed : IsFixedB
   module _ (d most : ℕ) (le : d ≤ most) (spot : Spot) (input : List ℕ) (are : AreBytes input) (held : Statics_in t u source (first_byte t u) (at_start t.word source input).statics) where
     abbrev first_state : State
     first_state = at_start t.word source input
+
+    data_byte : (b : Bool) (a n : ℕ) → (if b then Some (slice_index u.bytes (a - t.base)) else None) ≡ Some n → n < 256
+    data_byte true a n is = subst (λ z. z < 256) (ap (λ o. unwrap_or o n) is) (index_small 256 u.bytes (a - t.base) (omega arith) machine_is.bytes)
+    data_byte false a n is = absurd (grind (arith, is))
+
+    data_small : (a n : ℕ) → first_byte t u a ≡ Some n → n < 256
+    data_small a n is = data_byte (is_in_data t u a) a n is
 
     abbrev number : ℕ
     number = main_in source.functions
@@ -208,7 +215,7 @@ module _ (t : Target) (u : Image) (m : Fixed) (source : Typed) (fixed : IsFixedB
 
       body_runs_first : Does t u d main_begins (λ fl s1 z. Back t u m source f main_call main_ready main_begins (value_at (is_main f) spot fl) s1 z) (body_of most d (0 + call_bytes t.kept t.word f) f (inside [] first_state))
       body_runs_first =
-          runs t u m source fixed machine_is sound unit bodies number f [] t.memory 0 main_enters (first_byte t u) input input [] [] first_state.statics refl are held (sym no_parameters) main_room
+          runs t u m source fixed machine_is sound unit bodies number f [] t.memory 0 main_enters (first_byte t u) input input [] [] first_state.statics data_small refl are held (sym no_parameters) main_room
           (λ i v e. absurd (grind (arith, e))) (λ i v o e e'. absurd (grind (arith, e'))) d most le (call_at setting source most d (0 + call_bytes t.kept t.word f))
           (calls_do most d le f main_call main_ready (0 + call_bytes t.kept t.word f) (entered_level number f [] t.memory 0 main_enters)) spot
 

@@ -28,7 +28,7 @@ use Rattle.naive_assigned.proofs.Areas.{bytes_are}
 rounds_up : (w n : ℕ) → IsWordSize w → n ≤ rounded w n
 rounds_up w n z = by_size (λ w. n ≤ rounded w n) (omega arith) (omega arith) w z
 
-array_length : Kind → ℕ
+abbrev array_length : Kind → ℕ
 array_length (array of n) = n
 array_length g = 0
 

@@ -37,7 +37,7 @@ use Rattle.naive_statements.proofs.For.{PastDo}
 use Rattle.naive_lists.proofs.Elements.{IsLocalArray, All_listed, elements_do}
 use Rattle.naive_lists.proofs.Clearing.{rest_cleared}
 
-array_length : Kind → ℕ
+abbrev array_length : Kind → ℕ
 array_length (array of n) = n
 array_length g = 0
 

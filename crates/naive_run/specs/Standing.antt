@@ -1,13 +1,16 @@
 -- When code does the operations of a function, place by place.
-use Rattle.std.specs.Prelude.{◌≡◌, ◌⊎◌, ℕ, suc, ◌-◌, ◌==◌, if◌then◌else◌, List, [], ◌∷◌, ◌++◌, Some, None, Ok, Contains}
+use Rattle.std.specs.Prelude.{◌≡◌, ◌⊎◌, ℕ, suc, ◌-◌, ◌==◌, if◌then◌else◌, List, [], ◌∷◌, ◌++◌, Some, None, Ok, Contains, All}
 use Rattle.rtl_word.specs.declared.Rel.{Rel}
-use Rattle.rtl_tree.specs.declared.cells.Cell.TheVariants.{Temp, Hard}
+use Rattle.rtl_tree.specs.declared.cells.Cell.TheVariants.{Temp}
 use Rattle.rtl_tree.specs.declared.cells.Lab.TheVariants as label
 use Rattle.rtl_tree.specs.declared.expressions.BinOp.TheVariants as op
 use Rattle.rtl_tree.specs.Moves.{Move}
+use Rattle.rtl_norm.specs.Transfers.{IsMoveFitting}
 use Rattle.rtl_effect.specs.Views.{View}
 use Rattle.rtl_effect.specs.Effects.{Done, effect}
 use Rattle.rtl_norm_value.specs.Effect.{with_normal_jump}
+use Rattle.rtl_norm_value.specs.Kept.{IsWordView}
+use Rattle.md_filled.specs.Doing.{IsSameBut, DoesAs}
 use Rattle.md_shapes.specs.declared.patterns.Pattern.{Pattern}
 use Rattle.md_shapes.specs.declared.patterns.Pattern.TheVariants as shape
 use Rattle.md_shapes.specs.Shapes.{Frame as Fixed, Open, shape_moves}
@@ -17,24 +20,10 @@ use Rattle.temp_machine.specs.Live.{Place, Item, Transfer, End, item_at}
 use Rattle.naive_code.specs.Operations as code
 use Rattle.naive_code.specs.Operations.{Stop, Op, Make, Meet, Scale, Extend, Close, on_two, with_number}
 
--- what two transfers do is the same but for flags
-pub record ButFlags (d e : Done) : Type 0 where
-  pub temps : (n : ℕ) → e.view.cells (Temp n) ≡ d.view.cells (Temp n)
-  pub registers : (n : ℕ) → e.view.cells (Hard n) ≡ d.view.cells (Hard n)
-  pub bytes : (a : ℕ) → e.view.bytes a ≡ d.view.bytes a
-  pub input : e.view.input ≡ d.view.input
-  pub place : e.place ≡ d.place
-  pub output : e.output ≡ d.output
-  pub halt : e.halt ≡ d.halt
-
--- wherever the one can be done, the other does the same but for flags
-pub record Realises (w : ℕ) (wanted ms : List Move) : Type 0 where
-  pub does : (v : View) (d : Done) → effect w wanted v ≡ Ok d → (e : Done) × (effect w ms v ≡ Ok e) × ButFlags d e
-
--- wherever the one can be done, two others in turn do the same but for flags, and the first of them is not seen
-pub record RealisesInTwo (w : ℕ) (wanted first second : List Move) : Type 0 where
-  pub does : (v : View) (d : Done) → effect w wanted v ≡ Ok d
-      → (e f : Done) × (effect w first v ≡ Ok e) × (effect w second e.view ≡ Ok f) × (e.output ≡ None) × (e.halt ≡ None) × ButFlags d f
+-- wherever the one can be done on words, two others in turn do the same but for flags, and the first of them is not seen
+pub record DoesInTwo (w : ℕ) (wanted first second : List Move) : Type 0 where
+  pub does : (v : View) (d : Done) → IsWordView w v → effect w wanted v ≡ Ok d
+      → (e f : Done) × (effect w first v ≡ Ok e) × (effect w second e.view ≡ Ok f) × (e.output ≡ None) × (e.halt ≡ None) × IsSameBut wanted d f
 
 -- a transfer of a shape
 pub record Shaped : Type 0 where
@@ -83,11 +72,12 @@ module _ (w : ℕ) (m : Fixed) (r : Routine) where
   abbrev pub wanted : Shaped → List Move
   wanted s = shape_moves m s.pattern s.at
 
-  -- a transfer at a place does the shape's
+  -- a transfer at a place does the shape's, whose numbers are words
   pub record HasShaped (s : Shaped) (p next : Place) : Type 0 where
     pub transfer : List Move
     pub at : item_at r p ≡ Some (Transfer transfer)
-    pub realises : Realises w (wanted s) transfer
+    pub numbers : All (IsMoveFitting w) (wanted s)
+    pub does : DoesAs w (wanted s) transfer
     pub behind : next ≡ record { block = p.block; at = suc p.at }
 
   abbrev pub HasAll : List Shaped → Place → Place → Type 0
@@ -98,10 +88,10 @@ module _ (w : ℕ) (m : Fixed) (r : Routine) where
   abbrev pub Ends : Stop → Place → Type 0
   Ends code.Falls p = item_at r p ≡ Some (End Falls)
   Ends (code.Jumps l) p =
-      (ms : List Move) × (item_at r p ≡ Some (End (Jumps ms))) × Realises w (wanted (shaped shape.Jump (with_label l))) (with_normal_jump w ms)
+      (ms : List Move) × (item_at r p ≡ Some (End (Jumps ms))) × DoesAs w (wanted (shaped shape.Jump (with_label l))) (with_normal_jump w ms)
   Ends (code.Branches rel a b l) p =
       (ms : List Move) × (item_at r p ≡ Some (End (Branches ms)))
-      × Realises w (wanted (shaped (shape.Branch rel) (on_two_to a b l))) (with_normal_jump w ms)
+      × DoesAs w (wanted (shaped (shape.Branch rel) (on_two_to a b l))) (with_normal_jump w ms)
   Ends (code.Calls f) p = (ms : List Move) × (item_at r p ≡ Some (End (Calls ms))) × (callee_of w ms ≡ Some f)
   Ends code.Returns p = item_at r p ≡ Some (End Returns)
 
@@ -112,7 +102,7 @@ module _ (w : ℕ) (m : Fixed) (r : Routine) where
     pub behind : q ≡ record { block = p.block; at = suc p.at }
     pub jumps : List Move
     pub end : item_at r q ≡ Some (End (Branches jumps))
-    pub does : RealisesInTwo w (wanted (shaped (shape.Branch rel) (on_two_to a b l))) compares (with_normal_jump w jumps)
+    pub does : DoesInTwo w (wanted (shaped (shape.Branch rel) (on_two_to a b l))) compares (with_normal_jump w jumps)
 
   abbrev pub IsClosed : Stop → Place → Place → Type 0
   IsClosed (code.Branches rel a b l) p q = (Ends (code.Branches rel a b l) p × (q ≡ p)) ⊎ EndsByFlag rel a b l p q

@@ -1,6 +1,5 @@
 -- The code of a function's body does what the body does.
 use Rattle.std.proofs.Common.{◌≡◌, ℕ, ◌≤◌, ◌∙◌, sym, arith, true, false}
-use Rattle.std.specs.Prelude.{max}
 use Rattle.std.proofs.Math.Nat.{le-max_right}
 use Rattle.md_shapes.specs.Shapes.{Frame as Fixed}
 use Rattle.c_tree.specs.declared.typed.Function.{Function}
@@ -13,7 +12,7 @@ use Rattle.temp_machine.specs.Routines.{Image, Target}
 use Rattle.temp_machine.specs.Live.{Place}
 use Rattle.temp_machine.specs.Small.{Point}
 use Rattle.naive_code.specs.Storage.{scalar_count}
-use Rattle.naive_code.specs.Statements.{Around, Steps}
+use Rattle.naive_code.specs.Statements.{Around}
 use Rattle.naive_code.specs.Functions.{body_steps}
 use Rattle.naive_run.specs.Sound.{Left, left_of}
 use Rattle.naive_step.proofs.Doing.{Does, comes, late, any}
@@ -26,7 +25,7 @@ use Rattle.naive_assigns.proofs.Assigning.{world}
 use Rattle.naive_statements.proofs.Asked.{Past, Back, After}
 use Rattle.naive_bodies.proofs.Leaving.{Leaves, Valued, May_of}
 use Rattle.naive_bodies.proofs.Initialising.{Lists_do}
-use Rattle.naive_bodies.proofs.Statements.{Coded, statement_coded}
+use Rattle.naive_bodies.proofs.Statements.{statement_coded}
 
 module _ (t : Target) (u : Image) (m : Fixed) (source : Typed) (f : Function) (k : Active) (ready : Ready t u m source f k) where
   -- how a function's body is left: by its end, at the place behind it, or at a return, in `main` with a value

@@ -1,5 +1,5 @@
 -- Declarations and what else stands before a loop, with the test of one (C11 6.7.9, 6.8.5.3).
-use Rattle.std.proofs.Common.{◌≡◌, ℕ, suc, ◌+◌, ◌≤◌, List, [], ◌∷◌, ◌++◌, map, Option, Some, None, Bool, true, false, if◌then◌else◌, refl, sym, ap, ◌∙◌, subst, arith}
+use Rattle.std.proofs.Common.{◌≡◌, ℕ, suc, ◌≤◌, List, [], ◌∷◌, ◌++◌, map, Option, Some, None, Bool, true, false, if◌then◌else◌, refl, ap, ◌∙◌, subst, arith}
 use Rattle.std.specs.Prelude.{nat_le, nat_lt, max, length, slice_get}
 use Rattle.std.specs.List.{list_all}
 use Rattle.md_shapes.specs.Shapes.{Frame as Fixed}
@@ -17,15 +17,12 @@ use Rattle.c_tree.specs.declared.typed.Typed.{Typed}
 use Rattle.c_limits.specs.Depths.{arguments_of, in_option, in_list, in_init, in_locals, in_start}
 use Rattle.c_limits.specs.Weights.{length_of}
 use Rattle.c_meaning.specs.Parts.{State, Part, then_do, give, demand, Gives, Cut, Fails, Value as Result, word}
-use Rattle.c_meaning.specs.Expressions.{Kind, missing, scalar, array, Calls as SourceCalls, World, needed, meaning}
+use Rattle.c_meaning.specs.Expressions.{Kind, missing, scalar, array, Calls as SourceCalls, World, meaning}
 use Rattle.c_meaning.specs.Run.{kind_in}
 use Rattle.c_meaning.specs.Statements.{Flow, next, breaks, continues, returns, Does as SourceDoes, numbers, initialise, declare, tested, evaluated, started}
 use Rattle.temp_machine.specs.Routines.{Image, Target}
-use Rattle.temp_machine.specs.Live.{Place}
-use Rattle.temp_machine.specs.Small.{Point}
-use Rattle.naive_code.specs.Operations.{Op}
 use Rattle.naive_code.specs.Storage.{Storage, Temporary, Word, Elements, Missing, Symbol, Frame}
-use Rattle.naive_code.specs.Expressions.{Value, Test, Site, naive}
+use Rattle.naive_code.specs.Expressions.{Value, Site, naive}
 use Rattle.naive_code.specs.Statements.{Steps, shifted, no_steps, joined, put_element, put_elements, cleared, cleared_rest, storage_of_local, init_steps, locals_steps, evaluated as evaluated_steps, started as started_steps, test_in}
 use Rattle.naive_code.specs.Functions.{site_of}
 use Rattle.naive_run.specs.Sound.{checked, alike, has_type, fits_init, fit_locals, fits_start, is_sound_or_absent}
@@ -116,13 +113,15 @@ module _ (t : Target) (u : Image) (m : Fixed) (source : Typed) (f : Function) (k
       (falls_to t u m source f k ready n onward p r q c i at one last) (λ d o. o.printed)
       (λ d j at' o.
       let works = works_opens t u m source f k ready n first first c d o in
-      there t u n d (Tested_value t u m source f k ready Any false target first q c) (word 1) s
-      (tt, record {
-        inside = j;
-        at = at';
-        rep = rep_works t u m source f k ready first first c d fresh fresh works s rep;
-        since = since_works t u m source f k ready first first first c d (omega arith) (omega arith) works;
-      }))
+      there t u n d (Tested_value t u m source f k ready Any false target first q c) (word 1) s (
+        tt,
+        record {
+          inside = j;
+          at = at';
+          rep = rep_works t u m source f k ready first first c d fresh fresh works s rep;
+          since = since_works t u m source f k ready first first first c d (omega arith) (omega arith) works;
+        },
+      ))
 
 module _ (t : Target) (u : Image) (m : Fixed) (source : Typed) (f : Function) (k : Active) (ready : Ready t u m source f k) (n : ℕ) (call : SourceCalls) where
   abbrev W : World
@@ -174,8 +173,7 @@ module _ (t : Target) (u : Image) (m : Fixed) (source : Typed) (f : Function) (k
       all_past : (ls : List Local) → fit_locals t.word source f ls ≡ true → in_locals arguments_of ls ≤ few_words → All_initialise t u m source f k ready n W here f.locals ls
       all_past [] fits few = tt
       all_past (l ∷ ls) fits few =
-          let parts = both_so (fits_init t.word source f (kind_in source f (variable.Local l.number)) l.init) (fit_locals t.word source f ls) fits in
-          (
+          let parts = both_so (fits_init t.word source f (kind_in source f (variable.Local l.number)) l.init) (fit_locals t.word source f ls) fits in (
             init_past l.number l.init (kind_in source f (variable.Local l.number)) refl parts.0 (fewer_left (in_init arguments_of l.init) (in_locals arguments_of ls) few),
             all_past ls parts.1 (fewer_right (in_init arguments_of l.init) (in_locals arguments_of ls) few),
           )

@@ -1,8 +1,7 @@
 -- Each statement's code does what the statement does.
-use Rattle.std.proofs.Common.{◌≡◌, ℕ, ◌+◌, ◌≤◌, List, [], ◌∷◌, map, Option, Some, None, refl, sym, subst, arith}
+use Rattle.std.proofs.Common.{◌≡◌, ℕ, ◌≤◌, List, [], ◌∷◌, map, Option, Some, None, refl, sym, subst, arith}
 use Rattle.std.specs.Prelude.{Bool, true, false, ◌&&◌, not, max}
 use Rattle.md_shapes.specs.Shapes.{Frame as Fixed}
-use Rattle.c_tree.specs.declared.token.At.{At as Spot}
 use Rattle.c_tree.specs.declared.types.CType.{CType}
 use Rattle.c_tree.specs.declared.types.CType.TheVariants as type
 use Rattle.c_tree.specs.declared.typed.TypedExpr.{TypedExpr}
@@ -14,14 +13,14 @@ use Rattle.c_tree.specs.declared.typed.Stat.TheFolds.{map-Stat}
 use Rattle.c_tree.specs.declared.typed.Function.{Function}
 use Rattle.c_tree.specs.declared.typed.Typed.{Typed}
 use Rattle.c_limits.specs.Depths.{arguments_of, greatest, in_statement, greatest_in, in_option, in_start, in_locals}
-use Rattle.c_meaning.specs.Parts.{State, Part, then_do, give, demand, word}
+use Rattle.c_meaning.specs.Parts.{State, then_do, give, word}
 use Rattle.c_meaning.specs.Expressions.{Calls as SourceCalls, World, needed, at_zero, meaning}
 use Rattle.c_meaning.specs.Run.{is_main}
-use Rattle.c_meaning.specs.Statements.{Flow, next, breaks, continues, returns, Does as SourceDoes, Execution, nothing, plain, sequence, all_unset, numbers, declared, declare, tested, evaluated, turns, do_turns, started, from_label, or_default, left, or_else, statement, execution}
+use Rattle.c_meaning.specs.Statements.{returns, Does as SourceDoes, Execution, nothing, plain, sequence, all_unset, numbers, declared, declare, tested, evaluated, turns, do_turns, started, from_label, or_default, left, or_else, statement, execution}
 use Rattle.temp_machine.specs.Routines.{Image, Target}
 use Rattle.naive_code.specs.Expressions.{Site, naive}
-use Rattle.naive_code.specs.Statements.{Steps, no_steps, enclosed, all_joined, locals_steps, dropped, evaluated as evaluated_steps, started as started_steps, test_in, if_steps, while_steps, do_steps, for_steps, switch_steps, labelled, leaving, return_steps, node_steps, steps_of}
-use Rattle.naive_run.specs.Sound.{is_word, alike, checked, has_type, Left, simple, both, all_left, or_simple, with, in_loop, in_switch, is_sound_or_absent, fits_start, fit_locals, left_by, left_of}
+use Rattle.naive_code.specs.Statements.{Steps, no_steps, enclosed, all_joined, locals_steps, dropped, evaluated as evaluated_steps, started as started_steps, test_in, if_steps, while_steps, do_steps, for_steps, switch_steps, return_steps, node_steps, steps_of}
+use Rattle.naive_run.specs.Sound.{alike, checked, Left, simple, both, all_left, or_simple, with, in_loop, in_switch, is_sound_or_absent, fits_start, fit_locals, left_by, left_of}
 use Rattle.naive_step.proofs.Making.{Call as Active}
 use Rattle.naive_assigned.proofs.Ready.{Ready, outgoing}
 use Rattle.naive_values.proofs.Asked.{Any}
@@ -31,7 +30,7 @@ use Rattle.naive_nodes.proofs.Folds.{Four}
 use Rattle.naive_nodes.proofs.Nodes.{both_so}
 use Rattle.naive_statements.proofs.Asked.{StepsDo}
 use Rattle.naive_statements.proofs.Simple.{dropped_does, break_does, continue_does, return_nothing, return_value, if_does, if_else_does}
-use Rattle.naive_statements.proofs.Loops.{Tests_false, while_does}
+use Rattle.naive_statements.proofs.Loops.{while_does}
 use Rattle.naive_statements.proofs.DoWhile.{do_does}
 use Rattle.naive_statements.proofs.For.{for_does}
 use Rattle.naive_statements.proofs.Blocks.{nothing_does, block_does}

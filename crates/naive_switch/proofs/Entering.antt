@@ -1,29 +1,29 @@
 -- Statements that are entered at a label (C11 6.8.1, 6.8.4.2).
-use Rattle.std.proofs.Common.{◌≡◌, ℕ, ◌+◌, ◌≤◌, List, [], ◌∷◌, ◌++◌, map, Option, Some, None, Bool, true, false, if◌then◌else◌, refl, sym, ap, ◌∙◌, subst, arith}
+use Rattle.std.proofs.Common.{◌≡◌, ℕ, ◌+◌, ◌≤◌, List, [], ◌∷◌, map, Option, Some, None, Bool, true, false, if◌then◌else◌, refl, sym, ap, ◌∙◌, subst, arith}
 use Rattle.behaviour.specs.Steps.{Comes}
 use Rattle.md_shapes.specs.Shapes.{Frame as Fixed}
 use Rattle.c_tree.specs.declared.typed.Object.{Object as Thing}
 use Rattle.c_tree.specs.declared.typed.Function.{Function}
 use Rattle.c_tree.specs.declared.typed.Typed.{Typed}
-use Rattle.c_meaning.specs.Parts.{State, Part, then_do}
+use Rattle.c_meaning.specs.Parts.{State, then_do}
 use Rattle.c_meaning.specs.Statements.{Flow, next, breaks, continues, returns, Does as SourceDoes, Execution, go_on, sequence, is_label, among, from_label}
 use Rattle.temp_machine.specs.Routines.{Image, Target}
 use Rattle.temp_machine.specs.Live.{Place}
 use Rattle.temp_machine.specs.Small.{Point}
-use Rattle.naive_code.specs.Operations.{Op, Close, Falls}
+use Rattle.naive_code.specs.Operations.{Op, Falls}
 use Rattle.naive_code.specs.Storage.{scalar_count}
 use Rattle.naive_code.specs.Expressions.{Site}
 use Rattle.naive_code.specs.Statements.{Around, Steps, shifted, joined, all_joined, labelled}
 use Rattle.naive_step.proofs.Doing.{M, Does, does_then, does_on, does_quietly, there}
 use Rattle.naive_step.proofs.Making.{Call, Inside, At}
-use Rattle.naive_step.proofs.Ends.{Opens, begin_of}
+use Rattle.naive_step.proofs.Ends.{begin_of}
 use Rattle.naive_assigned.proofs.Ready.{Ready}
 use Rattle.naive_assigned.proofs.Working.{rep_works}
-use Rattle.naive_values.proofs.Getting.{To, Ops, stands_split}
+use Rattle.naive_values.proofs.Getting.{Ops, stands_split}
 use Rattle.naive_values.proofs.Asked.{Stands_for, block_at}
 use Rattle.naive_tests.proofs.Tests.{closes_at, works_opens}
 use Rattle.naive_tests.proofs.Choosing.{falls_to}
-use Rattle.naive_statements.proofs.Asked.{Past, After, Way_from, after_since, with_way, StepsDo}
+use Rattle.naive_statements.proofs.Asked.{After, after_since, with_way, StepsDo}
 use Rattle.naive_statements.proofs.Blocks.{All_steps, sequence_does}
 use Rattle.naive_switch.proofs.Labels.{found_case, is_found, first_of, further, found_append, found_shifted, among_found, labels_shifted}
 

@@ -1,5 +1,5 @@
 -- The labels of a switch: which one is the first of a list's (C11 6.8.4.2).
-use Rattle.std.proofs.Common.{◌≡◌, ℕ, ◌+◌, List, [], ◌∷◌, ◌++◌, map, Option, Some, None, Bool, true, false, if◌then◌else◌, refl, ap, ◌∙◌}
+use Rattle.std.proofs.Common.{◌≡◌, ℕ, ◌+◌, List, [], ◌∷◌, ◌++◌, map, Option, Some, None, Bool, true, false, if◌then◌else◌, refl, ap}
 use Rattle.std.specs.Prelude.{◌||◌, ◌==◌}
 use Rattle.c_tree.specs.declared.typed.Object.{Object as Thing}
 use Rattle.c_meaning.specs.Statements.{is_label, among}

@@ -1,7 +1,7 @@
 -- `switch` (C11 6.8.4.2).
-use Rattle.std.proofs.Common.{◌≡◌, ℕ, ◌+◌, ◌≤◌, List, [], ◌∷◌, ◌++◌, map, Option, Some, None, refl, sym, ap, ◌∙◌, subst, arith}
+use Rattle.std.proofs.Common.{◌≡◌, ℕ, ◌+◌, ◌≤◌, List, [], ◌∷◌, ◌++◌, map, Option, Some, None, refl, sym, ◌∙◌, subst, arith}
 use Rattle.behaviour.specs.Steps.{Comes}
-use Rattle.behaviour.proofs.Stepping.{leads_comes, comes_trans}
+use Rattle.behaviour.proofs.Stepping.{comes_trans}
 use Rattle.md_shapes.specs.Shapes.{Frame as Fixed}
 use Rattle.c_tree.specs.declared.types.CType.{CType}
 use Rattle.c_tree.specs.declared.typed.Object.{Object as Thing}
@@ -26,7 +26,7 @@ use Rattle.naive_values.proofs.Getting.{Ops, stands_split}
 use Rattle.naive_values.proofs.Asked.{IsFresh, Stands_for, Has_word, block_at, ValueDoes, needed_does, since_works}
 use Rattle.naive_tests.proofs.Tests.{closes_at, works_opens}
 use Rattle.naive_tests.proofs.Choosing.{falls_to, jumps_to}
-use Rattle.naive_statements.proofs.Asked.{Past, After, Way_from, past_since, after_since, with_way, StepsDo, past_opens}
+use Rattle.naive_statements.proofs.Asked.{After, Way_from, past_since, after_since, with_way, StepsDo, past_opens}
 use Rattle.naive_statements.proofs.Blocks.{rep_all_unset}
 use Rattle.naive_statements.proofs.Dispatching.{goes_to, dispatches}
 use Rattle.naive_switch.proofs.Labels.{found_case, chosen_found, or_behind, otherwise_found}

@@ -30,7 +30,7 @@ use Rattle.naive_run.specs.Law.{IsFixedBy, IsUnitOf, IsSoundTarget}
 use Rattle.naive_run.specs.Sound.{is_sound}
 use Rattle.naive_run.specs.Standing.{shaped}
 use Rattle.naive_step.proofs.Doing.{Does, does_further, there, came}
-use Rattle.naive_step.proofs.Making.{Call, Inside, At, routine_in}
+use Rattle.naive_step.proofs.Making.{Call, At, routine_in}
 use Rattle.naive_step.proofs.Acts.{SetsTemp, SetsReg, set_reg}
 use Rattle.naive_step.proofs.Memory.{word_same}
 use Rattle.naive_step.proofs.Ways.{make_has}
@@ -42,110 +42,93 @@ use Rattle.naive_values.proofs.Asked.{Stands_for}
 use Rattle.naive_values.proofs.Composing.{to_does}
 use Rattle.naive_calls.proofs.Calling.{CallsDo}
 use Rattle.naive_statements.proofs.Asked.{Past, Back}
+use Rattle.naive_bodies.proofs.Leaving.{Valued}
+use Rattle.naive_bodies.proofs.Bodies.{Body_left, body_related}
 use Rattle.naive_lists.proofs.Clearing.{zero_typed}
+use Rattle.naive_lists.proofs.Lists.{lists_do}
 use Rattle.naive_function.proofs.Statics.{Statics_in, statics_same}
-use Rattle.naive_function.proofs.Entering.{IsSoundFunction, Enters, entered_call, entered_ready, is_sound_here, frame_end, first, entered_inside, bytes_below, bytes_above}
+use Rattle.naive_function.proofs.Entering.{Enters, entered_call, entered_ready, is_sound_here, frame_end, first, entered_inside, bytes_below, bytes_above}
 use Rattle.naive_function.proofs.Loading.{Loaded, loads, given_state, given_rep}
 
 pub is_itself : (n : ℕ) → (n == n) ≡ true
 is_itself n = grind (arith, nat_tests)
 
--- `main` returns with a value
-abbrev pub Valued : Function → Result → Type 0
-Valued f (word v) = Unit {0}
-Valued f (absent at) = is_main f ≡ false
+module _ (t : Target) (u : Image) (m : Fixed) (source : Typed) (f : Function) (k : Call) (ready : Ready t u m source f k) where
+  -- what holds at a return since a later point holds since an earlier one with the same bytes above the frame
+  back_since : (b c : Point) (v : Result) (s : State) (d : Point) → ((y : ℕ) → k.base + frame_bytes t.kept t.word f ≤ y → c.view.bytes y ≡ b.view.bytes y) → Back t u m source f k ready c v s d → Back t u m source f k ready b v s d
+  back_since b c v s d up h = record { inside = h.inside; place = h.place; at = h.at; at_return = h.at_return; rep = h.rep; above = λ y from. h.above y from ∙ up y from; result = h.result }
 
-module _ (t : Target) (u : Image) (m : Fixed) (source : Typed) where
-  module _ (f : Function) (k : Call) (ready : Ready t u m source f k) where
-    -- how a function's body is left: by its end, or at a return
-    abbrev pub Left_so : Place → Point → Flow → State → Point → Type 0
-    Left_so q c next s d = Past t u m source f k ready q c s d
-    Left_so q c breaks s d = ⊥
-    Left_so q c continues s d = ⊥
-    Left_so q c (returns v) s d = Back t u m source f k ready c v s d × Valued f v
+  -- a value that isn't there at a return
+  back_absent : (c : Point) (a b : Spot) (s : State) (d : Point) → Back t u m source f k ready c (absent a) s d → Back t u m source f k ready c (absent b) s d
+  back_absent c a b s d h = record { inside = h.inside; place = h.place; at = h.at; at_return = h.at_return; rep = h.rep; above = h.above; result = tt }
 
-    -- what holds at a return since a later point holds since an earlier one with the same bytes above the frame
-    back_since : (b c : Point) (v : Result) (s : State) (d : Point) → ((y : ℕ) → k.base + frame_bytes t.kept t.word f ≤ y → c.view.bytes y ≡ b.view.bytes y) → Back t u m source f k ready c v s d → Back t u m source f k ready b v s d
-    back_since b c v s d up h = record { inside = h.inside; place = h.place; at = h.at; at_return = h.at_return; rep = h.rep; above = λ y from. h.above y from ∙ up y from; result = h.result }
+  other_register : t.sp ≢ m.result
+  other_register e = ready.target.stack_is_no_result (e ∙ ready.fixed.result)
 
-    -- a value that isn't there at a return
-    back_absent : (c : Point) (a b : Spot) (s : State) (d : Point) → Back t u m source f k ready c (absent a) s d → Back t u m source f k ready c (absent b) s d
-    back_absent c a b s d h = record { inside = h.inside; place = h.place; at = h.at; at_return = h.at_return; rep = h.rep; above = h.above; result = tt }
+  -- ---- the end of the body
 
-    other_register : t.sp ≢ m.result
-    other_register e = ready.target.stack_is_no_result (e ∙ ready.fixed.result)
+  module _ (n : ℕ) (spot : Spot) (last : Place) (at_end : item_at (routine_in t u k) last ≡ Some (End Returns)) (b c : Point)
+      (up : (y : ℕ) → k.base + frame_bytes t.kept t.word f ≤ y → c.view.bytes y ≡ b.view.bytes y) (a : ℕ) (fresh : scalar_count f ≤ a) where
+    abbrev Ended : Bool → Flow → State → Point → Type 0
+    Ended main fl s d = Back t u m source f k ready b (value_at main spot fl) s d
 
-    -- ---- the end of the body
+    -- `main` returns 0
+    record Zero_back (s : State) (d e : Point) : Type 0 where
+      rep : Stands_for t u m source f k ready s e
+      bytes : (y : ℕ) → e.view.bytes y ≡ d.view.bytes y
+      result : e.view.cells (Hard t.result) ≡ Some 0
+      printed : e.printed ≡ d.printed
 
-    module _ (n : ℕ) (spot : Spot) (last : Place) (at_end : item_at (routine_in t u k) last ≡ Some (End Returns)) (b c : Point)
-        (up : (y : ℕ) → k.base + frame_bytes t.kept t.word f ≤ y → c.view.bytes y ≡ b.view.bytes y) (a : ℕ) (fresh : scalar_count f ≤ a) where
-      abbrev Ended : Bool → Flow → State → Point → Type 0
-      Ended main fl s d = Back t u m source f k ready b (value_at main spot fl) s d
+    sets_zero : (r : Place) (s : State) (d : Point) → Past t u m source f k ready r c s d → Ops t u m source f k ready (code.constant a 0 ∷ code.set_result a ∷ []) r last → To t u m source f k ready last (Zero_back s d) d
+    sets_zero r s d h (r1, one, (r2, two, same)) =
+        to_then t u m source f k ready r1 last (SetsTemp a (Some 0) d) (Zero_back s d) d (sets_number t u m source f k ready r r1 d h.inside h.at a 0 one)
+        (λ e j at' g.
+        to_as t u m source f k ready last (SetsReg m.result (e.view.cells (Temp a)) e.view.input e) (Zero_back s d) e
+        (subst (λ z. To t u m source f k ready z (SetsReg m.result (e.view.cells (Temp a)) e.view.input e) e) (sym same)
+        (set_reg t u m k ready.fits (shaped shape.SetResult (on_two a a)) r1 r2 e (make_has t u m k ready.fits _ _ r1 r2 two) j at' m.result a refl))
+        (λ w y. record {
+          rep = rep_like t u k source f s e w (y.others t.sp other_register) y.input (λ x i is of kind. y.temps i) y.bytes (rep_temp t u k source f s d e a (Some 0) fresh g h.rep);
+          bytes = λ z. y.bytes z ∙ g.bytes z;
+          result = ap (λ i. w.view.cells (Hard i)) (sym ready.fixed.result) ∙ (y.reg ∙ g.temp);
+          printed = y.printed ∙ g.printed;
+        }))
 
-      -- `main` returns 0
-      record Zero_back (s : State) (d e : Point) : Type 0 where
-        rep : Stands_for t u m source f k ready s e
-        bytes : (y : ℕ) → e.view.bytes y ≡ d.view.bytes y
-        result : e.view.cells (Hard t.result) ≡ Some 0
-        printed : e.printed ≡ d.printed
+    by_end : (main : Bool) (r : Place) (s : State) (d : Point) → Past t u m source f k ready r c s d → Ops t u m source f k ready (ending main a) r last → Does t u n d (Ended main) (give next s)
+    by_end true r s d h ops =
+        let to = sets_zero r s d h ops in
+        came t u n d to.point (Ended true) next s to.comes to.fact.printed (record {
+          inside = to.inside;
+          place = last;
+          at = to.at;
+          at_return = at_end;
+          rep = to.fact.rep;
+          above = λ y from. to.fact.bytes y ∙ (h.above y from ∙ up y from);
+          result = (to.fact.result, zero_typed t.word f.result, pow_pos t.word);
+        })
+    by_end false r s d h same =
+        there t u n d (Ended false) next s (record {
+          inside = h.inside;
+          place = last;
+          at = subst (λ z. At t u z d) (sym same) h.at;
+          at_return = at_end;
+          rep = h.rep;
+          above = λ y from. h.above y from ∙ up y from;
+          result = tt;
+        })
 
-      sets_zero : (r : Place) (s : State) (d : Point) → Past t u m source f k ready r c s d → Ops t u m source f k ready (code.constant a 0 ∷ code.set_result a ∷ []) r last → To t u m source f k ready last (Zero_back s d) d
-      sets_zero r s d h (r1, one, (r2, two, same)) =
-          to_then t u m source f k ready r1 last (SetsTemp a (Some 0) d) (Zero_back s d) d (sets_number t u m source f k ready r r1 d h.inside h.at a 0 one)
-          (λ e j at' g.
-          to_as t u m source f k ready last (SetsReg m.result (e.view.cells (Temp a)) e.view.input e) (Zero_back s d) e
-          (subst (λ z. To t u m source f k ready z (SetsReg m.result (e.view.cells (Temp a)) e.view.input e) e) (sym same)
-          (set_reg t u m k ready.fits (shaped shape.SetResult (on_two a a)) r1 r2 e (make_has t u m k ready.fits _ _ r1 r2 two) j at' m.result a refl))
-          (λ w y. record {
-            rep = rep_like t u k source f s e w (y.others t.sp other_register) y.input (λ x i is of kind. y.temps i) y.bytes (rep_temp t u k source f s d e a (Some 0) fresh g h.rep);
-            bytes = λ z. y.bytes z ∙ g.bytes z;
-            result = ap (λ i. w.view.cells (Hard i)) (sym ready.fixed.result) ∙ (y.reg ∙ g.temp);
-            printed = y.printed ∙ g.printed;
-          }))
+    by_return : (main : Bool) (v : Result) (s : State) (d : Point) → is_main f ≡ main → Back t u m source f k ready c v s d → Valued f v → Does t u n d (Ended main) (give (returns v) s)
+    by_return true (word v) s d is h valued = there t u n d (Ended true) (returns (word v)) s (back_since b c (word v) s d up h)
+    by_return false (word v) s d is h valued = there t u n d (Ended false) (returns (word v)) s (back_since b c (word v) s d up h)
+    by_return true (absent at) s d is h valued = absurd (let e : true ≡ false = sym is ∙ valued in grind (arith, e))
+    by_return false (absent at) s d is h valued = there t u n d (Ended false) (returns (absent at)) s (back_absent b at spot s d (back_since b c (absent at) s d up h))
 
-      by_end : (main : Bool) (r : Place) (s : State) (d : Point) → Past t u m source f k ready r c s d → Ops t u m source f k ready (ending main a) r last → Does t u n d (Ended main) (give next s)
-      by_end true r s d h ops =
-          let to = sets_zero r s d h ops in
-          came t u n d to.point (Ended true) next s to.comes to.fact.printed (record {
-            inside = to.inside;
-            place = last;
-            at = to.at;
-            at_return = at_end;
-            rep = to.fact.rep;
-            above = λ y from. to.fact.bytes y ∙ (h.above y from ∙ up y from);
-            result = (to.fact.result, zero_typed t.word f.result, pow_pos t.word);
-          })
-      by_end false r s d h same =
-          there t u n d (Ended false) next s (record {
-            inside = h.inside;
-            place = last;
-            at = subst (λ z. At t u z d) (sym same) h.at;
-            at_return = at_end;
-            rep = h.rep;
-            above = λ y from. h.above y from ∙ up y from;
-            result = tt;
-          })
+    ends : (r : Place) (fl : Flow) (s : State) (d : Point) → Ops t u m source f k ready (ending (is_main f) a) r last → Body_left t u m source f k ready r c fl s d → Does t u n d (Ended (is_main f)) (give fl s)
+    ends r next s d ops h = by_end (is_main f) r s d h ops
+    ends r breaks s d ops h = absurd h
+    ends r continues s d ops h = absurd h
+    ends r (returns v) s d ops h = by_return (is_main f) v s d refl h.0 h.1
 
-      by_return : (main : Bool) (v : Result) (s : State) (d : Point) → is_main f ≡ main → Back t u m source f k ready c v s d → Valued f v → Does t u n d (Ended main) (give (returns v) s)
-      by_return true (word v) s d is h valued = there t u n d (Ended true) (returns (word v)) s (back_since b c (word v) s d up h)
-      by_return false (word v) s d is h valued = there t u n d (Ended false) (returns (word v)) s (back_since b c (word v) s d up h)
-      by_return true (absent at) s d is h valued = absurd (let e : true ≡ false = sym is ∙ valued in grind (arith, e))
-      by_return false (absent at) s d is h valued = there t u n d (Ended false) (returns (absent at)) s (back_absent b at spot s d (back_since b c (absent at) s d up h))
-
-      ends : (r : Place) (fl : Flow) (s : State) (d : Point) → Ops t u m source f k ready (ending (is_main f) a) r last → Left_so r c fl s d → Does t u n d (Ended (is_main f)) (give fl s)
-      ends r next s d ops h = by_end (is_main f) r s d h ops
-      ends r breaks s d ops h = absurd h
-      ends r continues s d ops h = absurd h
-      ends r (returns v) s d ops h = by_return (is_main f) v s d refl h.0 h.1
-
-  -- the bodies of sound functions do what they should, where their calls do
-  abbrev pub Bodies_do : Type 0
-  Bodies_do =
-      (f : Function) (k : Call) (ready : Ready t u m source f k) (n : ℕ) (call : SourceCalls) → CallsDo t u m source f k ready n call → (most : ℕ) → n ≤ most → IsSoundFunction t.kept t.word source f
-      → (first label : ℕ) (b q : Place) (c : Point) (s : State) → scalar_count f ≤ first → Ops t u m source f k ready ((body_steps t.kept t.word source f).ops nowhere first label) b q → Inside t u k c → At t u b c
-      → Stands_for t u m source f k ready s c → Does t u n c (Left_so f k ready q c) ((execution (record { bits = t.word; kind = kind_in source f; call = call }) most f.body).does s)
-
-module _ (t : Target) (u : Image) (m : Fixed) (source : Typed) (fixed : IsFixedBy t m) (machine : IsSoundTarget t u) (sound : is_sound t.kept t.word source ≡ true) (unit : IsUnitOf t m source u) (bodies : Bodies_do t u m source)
+module _ (t : Target) (u : Image) (m : Fixed) (source : Typed) (fixed : IsFixedBy t m) (machine : IsSoundTarget t u) (sound : is_sound t.kept t.word source ≡ true) (unit : IsUnitOf t m source u)
     (g : ℕ) (f : Function) (callers : List Waiting) (from used : ℕ) (e : Enters t u m source fixed machine sound unit g f callers from used) where
   abbrev pub k : Call
   k = entered_call t u m source fixed machine sound unit g f callers from used e
@@ -188,9 +171,10 @@ module _ (t : Target) (u : Image) (m : Fixed) (source : Typed) (fixed : IsFixedB
     -- from its first point on
     pub runs : (d most : ℕ) → d ≤ most → (call : SourceCalls) → CallsDo t u m source f k ready d call → (spot : Spot)
         → Does t u d begins (Ends_back spot)
-          ((execution (record { bits = t.word; kind = kind_in source f; call = call }) most f.body).does (record { statics = statics; params = given vs; locals = blank; input = input }))
+        ((execution (record { bits = t.word; kind = kind_in source f; call = call }) most f.body).does (record { statics = statics; params = given vs; locals = blank; input = input }))
     runs d most le call calls spot =
         let expands = ready.expands in
+        let it = is_sound_here t u m source fixed machine sound unit g f callers from used e in
         let body = body_steps t.kept t.word source f in
         let a = scalar_count f + body.temps in
         let enter = entry_from (word_bytes t.word) (frame_bytes t.kept t.word f + pushed t) 0 (length f.params) in
@@ -204,6 +188,7 @@ module _ (t : Target) (u : Image) (m : Fixed) (source : Typed) (fixed : IsFixedB
         (entered_inside t u m source fixed machine sound unit g f callers from used e bytes read out small (subst AreBytes (sym read_is) are)) (record { block = refl; at = refl }) stack_is words_there (λ x v lt is. absurd (omega (arith, lt))) parts.1)
         (λ c h. h.printed)
         (λ c i at h.
-        does_further t u d c (Left_so t u m source f k ready inner.0 c) (Ends_back spot) (does s)
-        (bodies f k ready d call calls most le (is_sound_here t u m source fixed machine sound unit g f callers from used e) (scalar_count f) (ready.label + 1) parts.0 inner.0 c s (omega arith) inner.1 i at (rep_there c h))
+        does_further t u d c (Body_left t u m source f k ready inner.0 c) (Ends_back spot) (does s)
+        (body_related t u m source f k ready d call calls most le (lists_do t u m source f k ready d call calls) it.body it.breaks it.continues nowhere (scalar_count f) (ready.label + 1) parts.0 inner.0 c s
+        (omega arith) inner.1 i at (rep_there c h))
         (λ fl s1 z left. ends t u m source f k ready d spot expands.last expands.returns begins c (λ y above. h.bytes y) a (omega arith) inner.0 fl s1 z inner.2 left))

@@ -31,7 +31,7 @@ use Rattle.naive_statements.proofs.Asked.{Back}
 use Rattle.naive_statements.proofs.Loops.{cut_at}
 use Rattle.naive_function.proofs.Statics.{Statics_in, statics_of}
 use Rattle.naive_function.proofs.Entering.{Enters, entered_call, entered_ready, index_small, is_sound_here, frame_end, room_left, used_then, bytes_above}
-use Rattle.naive_function.proofs.Running.{Bodies_do, start, runs}
+use Rattle.naive_function.proofs.Running.{start, runs}
 use Rattle.naive_function.proofs.Returning.{waiter, behind_call, own_again, comes_behind, called_so}
 
 not_more : (a b : ℕ) → nat_lt a b ≡ false → b ≤ a
@@ -54,7 +54,7 @@ main_word spot continues = (0, refl)
 main_word spot (returns (word x)) = (x, refl)
 main_word spot (returns (absent at)) = (0, refl)
 
-module _ (t : Target) (u : Image) (m : Fixed) (source : Typed) (fixed : IsFixedBy t m) (machine_is : IsSoundTarget t u) (sound : is_sound t.kept t.word source ≡ true) (unit : IsUnitOf t m source u) (bodies : Bodies_do t u m source) where
+module _ (t : Target) (u : Image) (m : Fixed) (source : Typed) (fixed : IsFixedBy t m) (machine_is : IsSoundTarget t u) (sound : is_sound t.kept t.word source ≡ true) (unit : IsUnitOf t m source u) where
   abbrev setting : Setting
   setting = setting_of t.kept t.word t.stack
 
@@ -116,7 +116,7 @@ module _ (t : Target) (u : Image) (m : Fixed) (source : Typed) (fixed : IsFixedB
       ready' = entered_ready t u m source fixed machine_is sound unit g h now from used e
 
       abbrev begins : Point
-      begins = start t u m source fixed machine_is sound unit bodies g h now from used e c.view.bytes c.view.input c.printed
+      begins = start t u m source fixed machine_is sound unit g h now from used e c.view.bytes c.view.input c.printed
 
       calls_step : small_step t u c ≡ Goes begins
       calls_step =
@@ -134,7 +134,7 @@ module _ (t : Target) (u : Image) (m : Fixed) (source : Typed) (fixed : IsFixedB
 
       body_runs : Does t u d begins (λ fl s1 z. Back t u m source h k' ready' begins (value_at (is_main h) spot fl) s1 z) (body_of most d used_here h (inside vs s))
       body_runs =
-          runs t u m source fixed machine_is sound unit bodies g h now from used e c.view.bytes c.view.input s.input c.printed vs s.statics made.inside.shows.words.bytes made.rep.input made.rep.bytes (statics_of t u source k c f s made.rep) made.count
+          runs t u m source fixed machine_is sound unit g h now from used e c.view.bytes c.view.input s.input c.printed vs s.statics made.inside.shows.words.bytes made.rep.input made.rep.bytes (statics_of t u source k c f s made.rep) made.count
           arguments_inside (λ i v is. ap (λ b. word_at c.view.bytes (b + word_bytes t.word * i) (t.word / 8)) made.inside.base ∙ made.words i v is) (λ i v o is it. (made.typed i v o is it).0)
           d most le (call_at setting source most d used_here)
           (deeper h k' ready' used_here (entered_level g h now from used e)) spot
@@ -202,7 +202,7 @@ module _ (t : Target) (u : Image) (m : Fixed) (source : Typed) (fixed : IsFixedB
       main_ready = entered_ready t u m source fixed machine_is sound unit number f [] t.memory 0 main_enters
 
       abbrev main_begins : Point
-      main_begins = start t u m source fixed machine_is sound unit bodies number f [] t.memory 0 main_enters (first_byte t u) input []
+      main_begins = start t u m source fixed machine_is sound unit number f [] t.memory 0 main_enters (first_byte t u) input []
 
       it_is_main : is_main f ≡ true
       it_is_main = main_found source.functions f is
@@ -215,7 +215,7 @@ module _ (t : Target) (u : Image) (m : Fixed) (source : Typed) (fixed : IsFixedB
 
       body_runs_first : Does t u d main_begins (λ fl s1 z. Back t u m source f main_call main_ready main_begins (value_at (is_main f) spot fl) s1 z) (body_of most d (0 + call_bytes t.kept t.word f) f (inside [] first_state))
       body_runs_first =
-          runs t u m source fixed machine_is sound unit bodies number f [] t.memory 0 main_enters (first_byte t u) input input [] [] first_state.statics data_small refl are held (sym no_parameters) main_room
+          runs t u m source fixed machine_is sound unit number f [] t.memory 0 main_enters (first_byte t u) input input [] [] first_state.statics data_small refl are held (sym no_parameters) main_room
           (λ i v e. absurd (grind (arith, e))) (λ i v o e e'. absurd (grind (arith, e'))) d most le (call_at setting source most d (0 + call_bytes t.kept t.word f))
           (calls_do most d le f main_call main_ready (0 + call_bytes t.kept t.word f) (entered_level number f [] t.memory 0 main_enters)) spot
 

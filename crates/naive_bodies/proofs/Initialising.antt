@@ -46,7 +46,7 @@ use Rattle.naive_statements.proofs.Blocks.{unset_does, set_does}
 use Rattle.naive_statements.proofs.Starts.{All_initialise, declare_does, begins_unset, evaluated_does}
 use Rattle.naive_bodies.proofs.Leaving.{Leaves, Is_next}
 
-not_sound : {A : Type 0} → false ≡ true → A
+pub not_sound : {A : Type 0} → false ≡ true → A
 not_sound e = absurd (grind (arith, e))
 
 -- ---- declarations have no labels

@@ -1,5 +1,5 @@
 -- Each statement's code does what the statement does.
-use Rattle.std.proofs.Common.{◌≡◌, ℕ, ◌≤◌, List, [], ◌∷◌, map, Option, Some, None, refl, sym, subst, arith}
+use Rattle.std.proofs.Common.{◌≡◌, ℕ, ◌≤◌, List, [], ◌∷◌, map, Option, Some, None, refl, sym, subst}
 use Rattle.std.specs.Prelude.{Bool, true, false, ◌&&◌, not, max}
 use Rattle.md_shapes.specs.Shapes.{Frame as Fixed}
 use Rattle.c_tree.specs.declared.types.CType.{CType}
@@ -38,42 +38,26 @@ use Rattle.naive_switch.proofs.Entering.{Executes, unlabelled, labelled_executes
 use Rattle.naive_switch.proofs.Switching.{switch_does}
 use Rattle.naive_bodies.proofs.Folds.{four_statements}
 use Rattle.naive_bodies.proofs.Leaving.{Leaves, Is_next, May, May_of, leaves_then, leaves_as, leaves_at_zero, may_first, may_second, next_may, declare_next, leaves_turns, leaves_do_turns, All_leave, sequence_leaves, switch_leaves}
-use Rattle.naive_bodies.proofs.Initialising.{Lists_do, here, Relates, relates, fewer_left, fewer_right, locals_cases, past_steps, locals_past, evaluated_past, started_past, held_or_tested}
-
-not_same : {A : Type 0} → false ≡ true → A
-not_same e = absurd (grind (arith, e))
+use Rattle.naive_bodies.proofs.Initialising.{not_sound, Lists_do, here, Relates, relates, fewer_left, fewer_right, locals_cases, past_steps, locals_past, evaluated_past, started_past, held_or_tested}
 
 not_so : (b : Bool) → not b ≡ true → b ≡ false
-not_so true e = not_same e
+not_so true e = not_sound e
 not_so false e = refl
 
 -- types that count as one do so either way
 other_way : (a b : CType) → alike a b ≡ true → alike b a ≡ true
 other_way type.Schar type.Schar e = refl
-other_way type.Schar type.Uchar e = not_same e
-other_way type.Schar type.Int e = not_same e
-other_way type.Schar type.Unsigned e = not_same e
-other_way type.Schar type.Void e = not_same e
-other_way type.Uchar type.Schar e = not_same e
+other_way type.Schar _ e = not_sound e
 other_way type.Uchar type.Uchar e = refl
-other_way type.Uchar type.Int e = not_same e
-other_way type.Uchar type.Unsigned e = not_same e
-other_way type.Uchar type.Void e = not_same e
-other_way type.Int type.Schar e = not_same e
-other_way type.Int type.Uchar e = not_same e
+other_way type.Uchar _ e = not_sound e
 other_way type.Int type.Int e = refl
 other_way type.Int type.Unsigned e = refl
-other_way type.Int type.Void e = not_same e
-other_way type.Unsigned type.Schar e = not_same e
-other_way type.Unsigned type.Uchar e = not_same e
+other_way type.Int _ e = not_sound e
 other_way type.Unsigned type.Int e = refl
 other_way type.Unsigned type.Unsigned e = refl
-other_way type.Unsigned type.Void e = not_same e
-other_way type.Void type.Schar e = not_same e
-other_way type.Void type.Uchar e = not_same e
-other_way type.Void type.Int e = not_same e
-other_way type.Void type.Unsigned e = not_same e
+other_way type.Unsigned _ e = not_sound e
 other_way type.Void type.Void e = refl
+other_way type.Void _ e = not_sound e
 
 module _ (t : Target) (u : Image) (m : Fixed) (source : Typed) (f : Function) (k : Active) (ready : Ready t u m source f k) (n : ℕ) (call : SourceCalls) (calls : CallsDo t u m source f k ready n call) (most : ℕ) (le : n ≤ most)
     (lists : Lists_do t u m source f k ready n call) where

@@ -1,5 +1,5 @@
 -- Naive code does what its source does.
-use Rattle.std.specs.Prelude.{true, ◌≡◌, ◌≤◌, ◌<◌, ℕ, suc, ◌+◌, ◌-◌, ◌*◌, ◌/◌, ◌%◌, ◌^◌, List, [], length, slice_get, slice_index, Option, Some, None}
+use Rattle.std.specs.Prelude.{true, ◌≡◌, ◌≤◌, ◌<◌, ℕ, suc, ◌+◌, ◌-◌, ◌*◌, ◌/◌, ◌%◌, ◌^◌, List, [], length, slice_get, slice_index, Option, Some, None, All}
 use Rattle.behaviour.specs.Run.{Run, AreBytes, Same}
 use Rattle.md_shapes.specs.Shapes.{Frame as Fixed}
 use Rattle.c_tree.specs.declared.types.CType.{CType}
@@ -69,9 +69,11 @@ pub record IsUnitOf (t : Target) (m : Fixed) (source : Typed) (u : Image) : Type
   pub apart : (x y : ℕ) (s r : Static) → x < y → slice_get source.statics x ≡ Some s → slice_get source.statics y ≡ Some r
       → slice_index u.symbols x + object_bytes t.word s.object ≤ slice_index u.symbols y
 
--- a machine, and the data lie below what its stack may take
+-- a machine, and the data are bytes below what its stack may take, at addresses that are words
 pub record IsSoundTarget (t : Target) (u : Image) : Type 0 where
   pub target : IsTarget t
+  pub bytes : All (λ b. b < 256) u.bytes
+  pub symbols : All (λ a. a < 2 ^ t.word) u.symbols
   pub room : t.base + length u.bytes + t.stack ≤ t.memory
 
 abbrev pub run_of : Target → Typed → List ℕ → Run

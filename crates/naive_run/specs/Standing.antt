@@ -1,10 +1,11 @@
 -- When code does the operations of a function, place by place.
-use Rattle.std.specs.Prelude.{◌≡◌, ◌⊎◌, ℕ, suc, ◌-◌, ◌==◌, if◌then◌else◌, List, [], ◌∷◌, ◌++◌, Some, None, Ok, Contains}
+use Rattle.std.specs.Prelude.{◌≡◌, ◌⊎◌, ℕ, suc, ◌-◌, ◌==◌, if◌then◌else◌, List, [], ◌∷◌, ◌++◌, Some, None, Ok, Contains, All}
 use Rattle.rtl_word.specs.declared.Rel.{Rel}
 use Rattle.rtl_tree.specs.declared.cells.Cell.TheVariants.{Temp}
 use Rattle.rtl_tree.specs.declared.cells.Lab.TheVariants as label
 use Rattle.rtl_tree.specs.declared.expressions.BinOp.TheVariants as op
 use Rattle.rtl_tree.specs.Moves.{Move}
+use Rattle.rtl_norm.specs.Transfers.{IsMoveFitting}
 use Rattle.rtl_effect.specs.Views.{View}
 use Rattle.rtl_effect.specs.Effects.{Done, effect}
 use Rattle.rtl_norm_value.specs.Effect.{with_normal_jump}
@@ -71,10 +72,11 @@ module _ (w : ℕ) (m : Fixed) (r : Routine) where
   abbrev pub wanted : Shaped → List Move
   wanted s = shape_moves m s.pattern s.at
 
-  -- a transfer at a place does the shape's
+  -- a transfer at a place does the shape's, whose numbers are words
   pub record HasShaped (s : Shaped) (p next : Place) : Type 0 where
     pub transfer : List Move
     pub at : item_at r p ≡ Some (Transfer transfer)
+    pub numbers : All (IsMoveFitting w) (wanted s)
     pub does : DoesAs w (wanted s) transfer
     pub behind : next ≡ record { block = p.block; at = suc p.at }
 

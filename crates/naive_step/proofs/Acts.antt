@@ -71,7 +71,7 @@ module _ (t : Target) (u : Image) (m : Fixed) (k : Call) (fits : Fits t u k) whe
 
   module _ (s : Shaped) (p q : Place) (c : Point) (has : HasShaped t.word m (routine_in t u k) s p q) (i : Inside t u k c) (h : At t u p c) where
     made_by : (ms : List Move) (d : Done) → shape_moves m s.pattern s.at ≡ ms → effect t.word ms c.view ≡ Ok d → d.halt ≡ None → Made t u k fits c p d
-    made_by ms d is does none = make t u k fits c p (shape_moves m s.pattern s.at) has.transfer d i h has.at has.realises (ap (λ x. effect t.word x c.view) is ∙ does) none
+    made_by ms d is does none = make t u k fits c p (shape_moves m s.pattern s.at) has.transfer d i h has.at has.numbers has.does (ap (λ x. effect t.word x c.view) is ∙ does) none
 
     at_next : (d : Point) → At t u (next t u k fits p) d → At t u q d
     at_next d a = subst (λ r. At t u r d) (sym has.behind) a

@@ -1,5 +1,7 @@
 -- What the end of a block does: the next block begins, or the block of a label.
-use Rattle.std.proofs.Common.{◌≡◌, ◌≢◌, ℕ, zero, suc, ◌+◌, ◌⊎◌, inl, inr, List, [], ◌∷◌, ◌++◌, Option, Some, None, Result, Ok, Err, refl, sym, ap, ◌∙◌, subst, arith, true, false}
+use Rattle.std.proofs.Common.{◌≡◌, ◌≢◌, ℕ, zero, suc, ◌+◌, ◌^◌, ◌<◌, ◌⊎◌, inl, inr, List, [], ◌∷◌, ◌++◌, Option, Some, None, Result, Ok, Err, refl, sym, ap, ◌∙◌, subst, arith, true, false}
+use Rattle.std.specs.Prelude.{slice_index}
+use Rattle.behaviour.specs.Run.{AreBytes}
 use Rattle.behaviour.specs.Steps.{Move as Step, Goes, Comes, Leads}
 use Rattle.behaviour.proofs.Stepping.{leads_one, comes_one, comes_refl, comes_then_leads}
 use Rattle.rtl_word.specs.declared.Rel.{Rel}
@@ -17,9 +19,11 @@ use Rattle.temp_machine.specs.Machine.{State, may_touch, made, unless_halted, pr
 use Rattle.temp_machine.specs.Live.{Place, Item, Transfer, End, item_at}
 use Rattle.temp_machine.specs.Small.{Point, behind, first_point, entering, small_step}
 use Rattle.naive_code.specs.Operations as code
-use Rattle.naive_run.specs.Standing.{ButFlags, Realises, RealisesInTwo, EndsByFlag, One, Ends, shaped, with_label, on_two_to}
+use Rattle.md_filled.specs.Doing.{IsSameBut, DoesAs}
+use Rattle.naive_run.specs.Standing.{DoesInTwo, EndsByFlag, One, Ends, shaped, with_label, on_two_to}
 use Rattle.naive_step.proofs.Doing.{M}
-use Rattle.naive_step.proofs.Making.{Call, Fits, Shows, Inside, At, routine_in, step_is, after_effect, shows_after, goes_on}
+use Rattle.naive_step.proofs.Words.{HoldsWords, words_in}
+use Rattle.naive_step.proofs.Making.{Call, Fits, Shows, Inside, At, routine_in, step_is, step_from, goes_on}
 
 -- the begin of a block, where all is as it was
 pub record Opens (c d : Point) : Type 0 where
@@ -41,12 +45,12 @@ module _ (t : Target) (u : Image) (m : Fixed) (k : Call) (fits : Fits t u k) whe
     pub at : At t u (begin_of n) point
     pub fact : Opens c point
 
-  -- the state behind an end that the machine comes to from c and makes at e, and whose transfer left a view
-  entered : (c e : Point) (z : View) (out : List ℕ) (n : ℕ) → Comes (M t u) c e → Inside t u k e → small_step t u e ≡ Goes (first_point t u (state_with t u e.state z out n))
+  -- the state behind an end to which the machine comes from c, and whose transfer left a view
+  entered : (c e : Point) (z : View) (out : List ℕ) (n : ℕ) → Comes (M t u) c e → Inside t u k c → small_step t u e ≡ Goes (first_point t u (state_with t u c.state z out n))
       → ((j : ℕ) → z.cells (Temp j) ≡ c.view.cells (Temp j)) → ((j : ℕ) → z.cells (Hard j) ≡ c.view.cells (Hard j)) → ((b : ℕ) → z.bytes b ≡ c.view.bytes b)
       → z.input ≡ c.view.input → out ≡ c.printed → Opened n c
   entered c e z out n to i goes temps regs bytes input printed = record {
-    point = first_point t u (state_with t u e.state z out n);
+    point = first_point t u (state_with t u c.state z out n);
     leads = comes_then_leads (M t u) c e _ to (leads_one (M t u) e _ goes);
     inside = record {
       function = i.function;
@@ -54,18 +58,34 @@ module _ (t : Target) (u : Image) (m : Fixed) (k : Call) (fits : Fits t u k) whe
       callers = i.callers;
       shows = record {
         size = refl;
-        reach = λ a. ap (λ f. may_touch t u (record { function = f; block = 0; base = e.state.top.base; temps = λ n. None }) e.state.callers a) i.function
-            ∙ (ap (λ b. may_touch t u (record { function = k.function; block = 0; base = b; temps = λ n. None }) e.state.callers a) i.base
+        reach = λ a. ap (λ f. may_touch t u (record { function = f; block = 0; base = c.state.top.base; temps = λ n. None }) c.state.callers a) i.function
+            ∙ (ap (λ b. may_touch t u (record { function = k.function; block = 0; base = b; temps = λ n. None }) c.state.callers a) i.base
             ∙ ap (λ cs. may_touch t u (record { function = k.function; block = 0; base = k.base; temps = λ n. None }) cs a) i.callers);
         symbols = λ n. refl;
         targets = λ l. refl;
         counter = refl;
         input = refl;
+        words = words_in t u (state_with t u c.state z out n) fits.size symbols words;
+        fed = fed;
       };
     };
     at = record { block = refl; at = refl };
     fact = record { temps = temps; regs = regs; bytes = bytes; input = input; printed = printed };
   }
+    where
+      fed : AreBytes z.input
+      fed = subst AreBytes (sym input) i.shows.fed
+
+      symbols : (j : ℕ) → slice_index u.symbols j < 2 ^ t.word
+      symbols j = subst (λ (x : ℕ). x < 2 ^ t.word) (i.shows.symbols j) (i.shows.words.symbols j)
+
+      words : HoldsWords t u (state_with t u c.state z out n)
+      words = record {
+        registers = λ j v h. i.shows.words.cells (Hard j) v (sym (regs j) ∙ h);
+        temps = λ j v h. i.shows.words.cells (Temp j) v (sym (temps j) ∙ h);
+        bytes = λ b v h. i.shows.words.bytes b v (sym (bytes b) ∙ h);
+        fed = fed;
+      }
 
   pub falls : (c : Point) (p : Place) → Inside t u k c → At t u p c → Ends t.word m (routine_in t u k) code.Falls p → Opened (suc p.block) c
   falls c p i h ends =
@@ -84,13 +104,13 @@ module _ (t : Target) (u : Image) (m : Fixed) (k : Call) (fits : Fits t u k) whe
   -- a transfer that only jumps, made at the end
   jumped : (c : Point) (wanted ms : List Move) (q : Option ℕ) → Inside t u k c
       → small_step t u c ≡ entering t u (made (effect t.word ms c.view) c.printed (λ z o l. Goes (state_with t u c.state z o (next_block t u c.state l))))
-      → Realises t.word wanted ms → effect t.word wanted c.view ≡ Ok (record { view = view_after t.word wanted None c.view; place = q; output = None; halt = None })
+      → DoesAs t.word wanted ms → effect t.word wanted c.view ≡ Ok (record { view = view_after t.word wanted None c.view; place = q; output = None; halt = None })
       → ((j : ℕ) → (view_after t.word wanted None c.view).cells (Temp j) ≡ c.view.cells (Temp j)) → ((j : ℕ) → (view_after t.word wanted None c.view).cells (Hard j) ≡ c.view.cells (Hard j))
       → (view_after t.word wanted None c.view).input ≡ c.view.input
       → Opened (next_block t u c.state q) c
   jumped c wanted ms q i goes real does temps regs input =
       let d : Done = record { view = view_after t.word wanted None c.view; place = q; output = None; halt = None } in
-      let e = real.does c.view d does in
+      let e = real.does c.view d i.shows.words does in
       let like = e.2 in
       subst (λ l. Opened (next_block t u c.state l) c) like.place
       (entered c c e.0.view (printed_with c.printed e.0.output) (next_block t u c.state e.0.place) (comes_refl (M t u) c) i
@@ -128,30 +148,28 @@ module _ (t : Target) (u : Image) (m : Fixed) (k : Call) (fits : Fits t u k) whe
 
   -- by a flag: a comparison is made, and then a jump that tests it
   flag_jumps : (c : Point) (p r : Place) (wanted compares jump : List Move) (q : Option ℕ) → Inside t u k c → At t u p c → item_at (routine_in t u k) p ≡ Some (Transfer compares)
-      → r ≡ record { block = p.block; at = suc p.at } → item_at (routine_in t u k) r ≡ Some (End (Branches jump)) → RealisesInTwo t.word wanted compares (with_normal_jump t.word jump)
+      → r ≡ record { block = p.block; at = suc p.at } → item_at (routine_in t u k) r ≡ Some (End (Branches jump)) → DoesInTwo t.word wanted compares (with_normal_jump t.word jump)
       → effect t.word wanted c.view ≡ Ok (record { view = view_after t.word wanted None c.view; place = q; output = None; halt = None })
       → ((j : ℕ) → (view_after t.word wanted None c.view).cells (Temp j) ≡ c.view.cells (Temp j)) → ((j : ℕ) → (view_after t.word wanted None c.view).cells (Hard j) ≡ c.view.cells (Hard j))
       → (view_after t.word wanted None c.view).input ≡ c.view.input
       → Opened (next_block t u c.state q) c
-  flag_jumps c p r wanted compares jump q i h item behind_p end real does temps regs input = at_end (real.does c.view _ does)
+  flag_jumps c p r wanted compares jump q i h item behind_p end real does temps regs input = at_end (real.does c.view _ i.shows.words does)
     where
       d : Done
       d = record { view = view_after t.word wanted None c.view; place = q; output = None; halt = None }
 
-      at_end : (e f : Done) × (effect t.word compares c.view ≡ Ok e) × (effect t.word (with_normal_jump t.word jump) e.view ≡ Ok f) × (e.output ≡ None) × (e.halt ≡ None) × ButFlags d f
+      at_end : (e f : Done) × (effect t.word compares c.view ≡ Ok e) × (effect t.word (with_normal_jump t.word jump) e.view ≡ Ok f) × (e.output ≡ None) × (e.halt ≡ None) × IsSameBut wanted d f
           → Opened (next_block t u c.state q) c
       at_end (e, f, first, second, quiet, no_halt, like) =
           let there = behind t u c e.view (printed_with c.printed e.output) in
-          let left = after_effect t.word compares c.view e first in
-          let inside : Inside t u k there = record { function = i.function; base = i.base; callers = i.callers; shows = subst (Shows t u k) (sym left.1) (shows_after t u k compares left.0 c.view i.shows) } in
           let here : At t u r there = subst (λ x. At t u x there) (sym behind_p) (record { block = h.block; at = ap suc h.at }) in
           let one : small_step t u c ≡ Goes there =
           step_is t u k fits c p (Transfer compares) i h item
           ∙ (ap (λ x. made x c.printed (λ v out label. Goes (behind t u c v out))) first ∙ goes_on t u k fits c (printed_with c.printed e.output) e.halt e.place e.view no_halt) in
           let out_is : printed_with c.printed e.output ≡ c.printed = ap (printed_with c.printed) quiet in
           subst (λ l. Opened (next_block t u c.state l) c) like.place
-          (entered c there f.view (printed_with (printed_with c.printed e.output) f.output) (next_block t u c.state f.place) (comes_one (M t u) c there one) inside
-          (step_is t u k fits there r (End (Branches jump)) inside here end
+          (entered c there f.view (printed_with (printed_with c.printed e.output) f.output) (next_block t u c.state f.place) (comes_one (M t u) c there one) i
+          (step_from t u k fits there r (End (Branches jump)) i.function i.callers here end
           ∙ (ap (λ x. entering t u (made x (printed_with c.printed e.output) (λ z o l. Goes (state_with t u c.state z o (next_block t u c.state l))))) second
           ∙ halted c (printed_with (printed_with c.printed e.output) f.output) f.halt f.place f.view like.halt))
           (λ j. like.temps j ∙ temps j) (λ j. like.registers j ∙ regs j) like.bytes (like.input ∙ input)

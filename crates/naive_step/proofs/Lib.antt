@@ -1,4 +1,5 @@
 pub mod Doing
+pub mod Words
 pub mod Making
 pub mod Acts
 pub mod Ways

@@ -1,42 +1,25 @@
 -- What a transfer does at a point of a run inside one call.
 use Rattle.std.proofs.Common.{◌≡◌, ℕ, zero, suc, ◌+◌, ◌≤◌, List, [], ◌∷◌, ◌++◌, Option, Some, None, Result, Ok, Err, refl, sym, ap, ◌∙◌, subst, arith, true, false}
-use Rattle.std.specs.Prelude.{Bool, nat_le, slice_index}
+use Rattle.std.specs.Prelude.{Bool, nat_le, slice_index, All}
+use Rattle.behaviour.specs.Run.{AreBytes}
 use Rattle.behaviour.specs.Steps.{Move as Step, Goes, Comes, Leads}
 use Rattle.behaviour.proofs.Stepping.{comes_one, leads_one}
-use Rattle.rtl_tree.specs.declared.cells.Cell.TheVariants.{Hard, Temp, Pc, Input, Output, Halt}
+use Rattle.rtl_word.specs.Words.{IsWordSize}
+use Rattle.rtl_tree.specs.declared.cells.Cell.TheVariants.{Hard, Temp, Pc, Input}
 use Rattle.rtl_tree.specs.declared.cells.Lab.{Lab}
 use Rattle.rtl_tree.specs.Moves.{Move}
-use Rattle.rtl_effect.specs.Views.{Stop, View, bind}
-use Rattle.rtl_effect.specs.Effects.{Done, effect, tested, event, went, patch_of, storing, assigned, view_after, next_in, Patch}
+use Rattle.rtl_norm.specs.Transfers.{IsMoveFitting}
+use Rattle.rtl_effect.specs.Views.{View}
+use Rattle.rtl_effect.specs.Effects.{Done, effect, view_after, next_in, Patch}
+use Rattle.rtl_norm_value.specs.Kept.{IsWordView}
+use Rattle.rtl_norm_value.proofs.WordViews.{words_are_kept}
+use Rattle.md_filled.specs.Doing.{DoesAs}
 use Rattle.temp_machine.specs.Routines.{Image, Target, Routine, word_bytes}
 use Rattle.temp_machine.specs.Machine.{State, Active, Waiting, made, unless_halted, printed_with, fits_stack, if_it_fits, may_touch, jump_target, taken_by_callers, routine_of, view_in, state_with, exit_made}
 use Rattle.temp_machine.specs.Live.{Place, Item, Transfer, End, item_at}
 use Rattle.temp_machine.specs.Small.{Point, behind, first_point, item_made, small_step, tested_at, entering}
-use Rattle.naive_run.specs.Standing.{ButFlags, Realises}
 use Rattle.naive_step.proofs.Doing.{M}
-
--- ---- effects
-
-abbrev Goes_through : {A B : Type 0} → Result A Stop → (A → Result B Stop) → B → Type 0
-Goes_through {A} x go d = (a : A) × (x ≡ Ok a) × (go a ≡ Ok d)
-
-bound : {A B : Type 0} (x : Result A Stop) (go : A → Result B Stop) (d : B) → bind x go ≡ Ok d → Goes_through x go d
-bound (Ok a) go d e = (a, refl, e)
-bound (Err s) go d e = absurd (grind (arith, e))
-
-abbrev view_or : View → Result Done Stop → View
-view_or v (Ok d) = d.view
-view_or v (Err s) = v
-
--- what a transfer that is done leaves: the view after it, for some patch
-pub after_effect : (w : ℕ) (ms : List Move) (v : View) (d : Done) → effect w ms v ≡ Ok d → (q : Option Patch) × (d.view ≡ view_after w ms q v)
-after_effect w ms v d e =
-    let a = bound (tested w ms v) _ d e in
-    let b = bound (event w (assigned ms Output) v) _ d a.2 in
-    let c = bound (event w (assigned ms Halt) v) _ d b.2 in
-    let f = bound (went w (assigned ms Pc) v) _ d c.2 in
-    let g = bound (patch_of w (storing ms) v) _ d f.2 in
-    (g.0, sym (ap (view_or v) g.2))
+use Rattle.naive_step.proofs.Words.{after_effect, words_alike}
 
 -- ---- calls
 
@@ -53,8 +36,9 @@ module _ (t : Target) (u : Image) where
   abbrev pub active : Call → Active
   active k = record { function = k.function; block = 0; base = k.base; temps = λ n. None }
 
-  -- the stack suffices for all active calls
+  -- words have a size of words, and the stack suffices for all active calls
   pub record Fits (k : Call) : Type 0 where
+    pub size : IsWordSize t.word
     pub fits : nat_le ((routine_in k).frame + word_bytes t + taken_by_callers t u k.callers) t.stack ≡ true
 
   -- what the view of each point of a call shows
@@ -65,6 +49,8 @@ module _ (t : Target) (u : Image) where
     pub targets : (l : Lab) → v.targets l ≡ jump_target l
     pub counter : v.cells Pc ≡ None
     pub input : v.cells Input ≡ Some (next_in t.word v.input)
+    pub words : IsWordView t.word v
+    pub fed : AreBytes v.input
 
   pub record Inside (k : Call) (c : Point) : Type 0 where
     pub function : c.state.top.function ≡ k.function
@@ -76,8 +62,10 @@ module _ (t : Target) (u : Image) where
     pub block : c.state.top.block ≡ p.block
     pub at : c.at ≡ p.at
 
-  pub shows_after : (k : Call) (ms : List Move) (q : Option Patch) (v : View) → Shows k v → Shows k (view_after t.word ms q v)
-  shows_after k ms q v s = record { size = s.size; reach = s.reach; symbols = s.symbols; targets = s.targets; counter = s.counter; input = refl }
+  shows_after : (k : Call) (ms : List Move) (q : Option Patch) (v z : View) → z ≡ view_after t.word ms q v → Shows k v → IsWordView t.word z → AreBytes z.input → Shows k z
+  shows_after k ms q v z is s =
+      subst (λ y. IsWordView t.word y → AreBytes y.input → Shows k y) (sym is)
+      (λ words fed. record { size = s.size; reach = s.reach; symbols = s.symbols; targets = s.targets; counter = s.counter; input = refl; words = words; fed = fed })
 
   place_of : (p : Place) (c : Point) → At p c → record { block = c.state.top.block; at = c.at } ≡ p
   place_of p c h = ap (λ b. record { block = b; at = c.at }) h.block ∙ ap (λ a. record { block = p.block; at = a }) h.at
@@ -87,17 +75,21 @@ module _ (t : Target) (u : Image) where
   untested (suc n) s out x f = refl
 
   module _ (k : Call) (fits : Fits k) where
-    fits_at : (c : Point) → Inside k c → fits_stack t u c.state ≡ true
-    fits_at c i =
-        ap (λ f. nat_le ((u.routines f).frame + word_bytes t + taken_by_callers t u c.state.callers) t.stack) i.function
-        ∙ ap (λ cs. nat_le ((routine_in k).frame + word_bytes t + taken_by_callers t u cs) t.stack) i.callers ∙ fits.fits
+    fits_at : (s : State) → s.top.function ≡ k.function → s.callers ≡ k.callers → fits_stack t u s ≡ true
+    fits_at s function callers =
+        ap (λ f. nat_le ((u.routines f).frame + word_bytes t + taken_by_callers t u s.callers) t.stack) function
+        ∙ ap (λ cs. nat_le ((routine_in k).frame + word_bytes t + taken_by_callers t u cs) t.stack) callers ∙ fits.fits
 
-    -- the step from a point inside the call, by what stands at its place
-    pub step_is : (c : Point) (p : Place) (x : Item) → Inside k c → At p c → item_at (routine_in k) p ≡ Some x → small_step t u c ≡ item_made t u (Some x) c
-    step_is c p x i h e =
-        untested c.at c.state c.printed _ (fits_at c i)
-        ∙ ap (λ o. item_made t u o c) (ap (λ f. item_at (u.routines f) (record { block = c.state.top.block; at = c.at })) i.function
+    -- the step from a point of the call, by what stands at its place
+    pub step_from : (c : Point) (p : Place) (x : Item) → c.state.top.function ≡ k.function → c.state.callers ≡ k.callers → At p c → item_at (routine_in k) p ≡ Some x
+        → small_step t u c ≡ item_made t u (Some x) c
+    step_from c p x function callers h e =
+        untested c.at c.state c.printed _ (fits_at c.state function callers)
+        ∙ ap (λ o. item_made t u o c) (ap (λ f. item_at (u.routines f) (record { block = c.state.top.block; at = c.at })) function
         ∙ ap (item_at (routine_in k)) (place_of p c h) ∙ e)
+
+    pub step_is : (c : Point) (p : Place) (x : Item) → Inside k c → At p c → item_at (routine_in k) p ≡ Some x → small_step t u c ≡ item_made t u (Some x) c
+    step_is c p x i h e = step_from c p x i.function i.callers h e
 
     abbrev pub next : Place → Place
     next p = record { block = p.block; at = suc p.at }
@@ -119,12 +111,14 @@ module _ (t : Target) (u : Image) where
     goes_on c out None q v e = refl
     goes_on c out (Some n) q v e = absurd (grind (arith, e))
 
-    pub make : (c : Point) (p : Place) (wanted ms : List Move) (d : Done) → Inside k c → At p c → item_at (routine_in k) p ≡ Some (Transfer ms)
-        → Realises t.word wanted ms → effect t.word wanted c.view ≡ Ok d → d.halt ≡ None → Made c p d
-    make c p wanted ms d i h item real is no_halt =
-        let e = real.does c.view d is in
+    pub make : (c : Point) (p : Place) (wanted ms : List Move) (d : Done) → Inside k c → At p c → item_at (routine_in k) p ≡ Some (Transfer ms) → All (IsMoveFitting t.word) wanted
+        → DoesAs t.word wanted ms → effect t.word wanted c.view ≡ Ok d → d.halt ≡ None → Made c p d
+    make c p wanted ms d i h item numbers real is no_halt =
+        let seen = i.shows.words in
+        let e = real.does c.view d seen is in
         let like = e.2 in
         let left = after_effect t.word ms c.view e.0 e.1 in
+        let kept = words_are_kept t.word wanted c.view d fits.size seen i.shows.fed numbers is in
         let there = behind t u c e.0.view (printed_with c.printed e.0.output) in
         let one : small_step t u c ≡ Goes there =
         step_is c p (Transfer ms) i h item
@@ -136,7 +130,7 @@ module _ (t : Target) (u : Image) where
             function = i.function;
             base = i.base;
             callers = i.callers;
-            shows = subst (Shows k) (sym left.1) (shows_after k ms left.0 c.view i.shows);
+            shows = shows_after k ms left.0 c.view e.0.view left.1 i.shows (words_alike t.word wanted ms c.view d e.0 fits.size seen e.1 like kept.0 kept.1) (subst AreBytes (sym like.input) kept.1);
           };
           at = record { block = h.block; at = ap suc h.at };
           temps = like.temps;

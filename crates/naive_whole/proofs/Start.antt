@@ -71,7 +71,7 @@ module _ (t : Target) (u : Image) (m : Fixed) (source : Typed) (size : IsWordSiz
           let element : s.object.element ≡ of = ap type_in g in
           let cell : cell_bytes t.word s.object ≡ element_bytes t.word of = ap (cell_bytes_by t.word s.object.element) l ∙ ap (element_bytes t.word) element in
           let count : element_count s.object ≡ n = ap count_by l ∙ ap length_in g in
-          subst (λ size. word_at byte_at (address_of x + size * i) size ≡ Some (value_of s i % 256 ^ size)) cell (stands x i s is (omega (arith, count, lt)))
+          subst (λ n. word_at byte_at (address_of x + n * i) n ≡ Some (value_of s i % 256 ^ n)) cell (stands x i s is (omega (arith, count, lt)))
 
   typed : (i v : ℕ) (o : Option Static) → listed t.word o i ≡ Some v → as_type t.word (type_in (kind_of (object_of o))) v ≡ v
   typed i v None e = absurd (grind (arith, e))

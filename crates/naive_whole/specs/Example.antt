@@ -1,5 +1,5 @@
 -- A program and its naive code, by which all premises of the law are met: `int s=7;int f(int a){return a+s;}int main(void){return f(5);}`
-use Rattle.std.specs.Prelude.{◌≡◌, ℕ, ◌==◌, true, List, [], ◌∷◌, Some, None, codes}
+use Rattle.std.specs.Prelude.{◌≡◌, ℕ, zero, suc, ◌==◌, true, List, [], ◌∷◌, Some, None}
 use Rattle.behaviour.specs.Behaviour.{Ended}
 use Rattle.rtl_tree.specs.declared.cells.Cell.TheVariants.{Temp}
 use Rattle.rtl_tree.specs.declared.cells.Lab.TheVariants as label
@@ -89,9 +89,9 @@ routine params f blocks = record {
 }
 
 abbrev pub routines : ℕ → Routine
-routines 0 = routine 1 adding adding_code
-routines 1 = routine 0 starting starting_code
-routines _ = no_routine
+routines zero = routine 1 adding adding_code
+routines (suc zero) = routine 0 starting starting_code
+routines (suc (suc g)) = no_routine
 
 abbrev pub image : Image
 image = record { routines = routines; main = 1; symbols = 1000 ∷ []; bytes = 7 ∷ 0 ∷ [] }

@@ -28,7 +28,7 @@ use Rattle.c_limits.specs.declared.weight.Place.{Place}
 use Rattle.c_limits.specs.declared.weight.Place.TheVariants as place
 use Rattle.c_limits.specs.declared.weight.Weight.{Weight}
 use Rattle.c_limits.specs.Frames.{word_bytes, arrays, scalars}
-use Rattle.c_limits.specs.Weights.{place_of, read_weight, assigned_weight, operation_weight, binary_weight, unary_weight, conversion_weight, value, named, each, expression_weight, weight_in}
+use Rattle.c_limits.specs.Weights.{place_of, read_weight, assigned_weight, operation_weight, binary_weight, unary_weight, conversion_weight, value as weighing, named, each, expression_weight, weight_in}
 use Rattle.c_meaning.specs.Operators.{Sort, computes, compares, logical, sort_of, relation_in, computed_in}
 use Rattle.c_meaning.specs.Expressions.{Kind, missing, scalar, array}
 use Rattle.c_meaning.specs.Run.{kind_in, kind_of, kind_by, object_of}
@@ -176,10 +176,10 @@ truth_most x n h t l =
 
 -- an expression that designates nothing
 logical_counted : (of : CType) (v : Value) (x : Test) (n : ℕ) → ((t l : ℕ) → most_in (v.ops t l) ≤ n) → ((sense : Bool) (target next t l : ℕ) → most_in (x.ops sense target next t l) ≤ n + 3)
-    → Counted (naive.logical_value of v x) (value n)
+    → Counted (naive.logical_value of v x) (weighing n)
 logical_counted of v x n h g = record { value = h; test = g; opens = λ t l. omega arith; gets = λ v a t. omega arith; puts = λ a v t. omega arith; settles = λ a v. omega arith }
 
-plain_counted : (of : CType) (v : Value) (n : ℕ) → ((t l : ℕ) → most_in (v.ops t l) ≤ n) → Counted (naive.plain of v) (value n)
+plain_counted : (of : CType) (v : Value) (n : ℕ) → ((t l : ℕ) → most_in (v.ops t l) ≤ n) → Counted (naive.plain of v) (weighing n)
 plain_counted of v n h = logical_counted of v (naive.test_of v) n h (test_most v n h)
 
 -- ---- operators
@@ -231,7 +231,7 @@ module _ (a b : Naive) (x y : Weight) (p : Counted a x) (q : Counted b y) where
       let g = p.test (not and) (naive.decided and sense target next) l t (l + 1) in let g1 = q.test sense target next u k in
       omega (arith, e, g, g1)
 
-  binary_counted : (of by : CType) (s : Sort) (n : ℕ) → room_of s ≤ n → Counted (naive.logical_value of (naive.two by s a b) (naive.truth_of by s a b)) (value (n + x.total + y.total))
+  binary_counted : (of by : CType) (s : Sort) (n : ℕ) → room_of s ≤ n → Counted (naive.logical_value of (naive.two by s a b) (naive.truth_of by s a b)) (weighing (n + x.total + y.total))
   binary_counted of by (computes o) n le =
       logical_counted of _ _ (n + x.total + y.total) bound (test_most (naive.joined a.value b.value (naive.computed o by)) (n + x.total + y.total) bound)
     where
@@ -246,7 +246,7 @@ module _ (a b : Naive) (x y : Weight) (p : Counted a x) (q : Counted b y) where
       (λ t l. let e = truth_most (naive.in_turn and a.test b.test) (x.total + y.total + 6) (in_turn_most and) t l in omega (arith, e, le))
       (λ sense target next t l. let e = in_turn_most and sense target next t l in omega (arith, e, le))
 
-  comma_counted : (of : CType) → Counted (naive.logical_value of (naive.both a.value 0 b.value) (naive.tested_after a.value b.test)) (value (x.total + y.total))
+  comma_counted : (of : CType) → Counted (naive.logical_value of (naive.both a.value 0 b.value) (naive.tested_after a.value b.test)) (weighing (x.total + y.total))
   comma_counted of =
       logical_counted of _ _ (x.total + y.total)
       (λ t l. let e = most_append (a.value.ops t l) (b.value.ops (t + a.value.temps) (l + a.value.labels)) in let g = p.value t l in let g1 = q.value (t + a.value.temps) (l + a.value.labels) in omega (arith, e, g, g1))
@@ -255,7 +255,7 @@ module _ (a b : Naive) (x y : Weight) (p : Counted a x) (q : Counted b y) where
       let g = p.value t l in let g1 = q.test sense target next (t + a.value.temps) (l + a.value.labels) in
       omega (arith, e, g, g1))
 
-  assign_counted : (of : CType) → Counted (naive.plain of (naive.assigned a.place b.value)) (value (assigned_weight x.place + x.inside + y.total))
+  assign_counted : (of : CType) → Counted (naive.plain of (naive.assigned a.place b.value)) (weighing (assigned_weight x.place + x.inside + y.total))
   assign_counted of = plain_counted of (naive.assigned a.place b.value) _ bound
     where
       bound : (t l : ℕ) → most_in ((naive.assigned a.place b.value).ops t l) ≤ assigned_weight x.place + x.inside + y.total
@@ -269,7 +269,7 @@ module _ (a b : Naive) (x y : Weight) (p : Counted a x) (q : Counted b y) where
           let room = assigned_room x.place in
           omega (arith, e, e1, e2, g, g1, g2, g3, room)
 
-  compound_counted : (of : CType) (bytes : ℕ) (o : Operation) → Counted (naive.plain of (naive.compound bytes o a.of a.place b.of b.value)) (value (assigned_weight x.place + read_weight x.place + operation_weight o + 4 + x.inside + y.total))
+  compound_counted : (of : CType) (bytes : ℕ) (o : Operation) → Counted (naive.plain of (naive.compound bytes o a.of a.place b.of b.value)) (weighing (assigned_weight x.place + read_weight x.place + operation_weight o + 4 + x.inside + y.total))
   compound_counted of bytes o = plain_counted of (naive.compound bytes o a.of a.place b.of b.value) _ bound
     where
       bound : (t l : ℕ) → most_in ((naive.compound bytes o a.of a.place b.of b.value).ops t l) ≤ assigned_weight x.place + read_weight x.place + operation_weight o + 4 + x.inside + y.total
@@ -291,7 +291,7 @@ module _ (a b : Naive) (x y : Weight) (p : Counted a x) (q : Counted b y) where
           omega (arith, e, e1, e2, e3, e4, e5, g, g1, g2, g3, g4, g5, g6, room)
 
 module _ (a : Naive) (x : Weight) (p : Counted a x) where
-  before_counted : (of : CType) (o : StepOperator) → Counted (naive.plain of (naive.stepped_before o a.of a.place)) (value (assigned_weight x.place + read_weight x.place + 2 + 4 + x.inside))
+  before_counted : (of : CType) (o : StepOperator) → Counted (naive.plain of (naive.stepped_before o a.of a.place)) (weighing (assigned_weight x.place + read_weight x.place + 2 + 4 + x.inside))
   before_counted of o = plain_counted of (naive.stepped_before o a.of a.place) _ bound
     where
       bound : (t l : ℕ) → most_in ((naive.stepped_before o a.of a.place).ops t l) ≤ assigned_weight x.place + read_weight x.place + 2 + 4 + x.inside
@@ -311,7 +311,7 @@ module _ (a : Naive) (x : Weight) (p : Counted a x) where
           let room = changed_room x.place in
           omega (arith, e, e1, e4, e5, g, g1, g4, g5, g6, room)
 
-  after_counted : (of : CType) (o : StepOperator) → Counted (naive.plain of (naive.stepped_after o a.of a.place)) (value (assigned_weight x.place + read_weight x.place + 2 + 4 + x.inside))
+  after_counted : (of : CType) (o : StepOperator) → Counted (naive.plain of (naive.stepped_after o a.of a.place)) (weighing (assigned_weight x.place + read_weight x.place + 2 + 4 + x.inside))
   after_counted of o = plain_counted of (naive.stepped_after o a.of a.place) _ bound
     where
       bound : (t l : ℕ) → most_in ((naive.stepped_after o a.of a.place).ops t l) ≤ assigned_weight x.place + read_weight x.place + 2 + 4 + x.inside
@@ -331,7 +331,7 @@ module _ (a : Naive) (x : Weight) (p : Counted a x) where
           let room = changed_room x.place in
           omega (arith, e, e1, e4, e5, g, g1, g4, g5, g6, room)
 
-  unary_counted : (of : CType) (o : UnaryOperator) → Counted (naive.logical_value of (naive.one o a) (naive.truth_of_one o a)) (value (unary_weight o + x.total))
+  unary_counted : (of : CType) (o : UnaryOperator) → Counted (naive.logical_value of (naive.one o a) (naive.truth_of_one o a)) (weighing (unary_weight o + x.total))
   unary_counted of unary.Plus = plain_counted of a.value _ (λ t l. let g = p.value t l in omega (arith, g))
   unary_counted of unary.Minus =
       plain_counted of (naive.negated a.value) _ (λ t l. let e = most_append (a.value.ops t l) (constant (t + a.value.temps) 0 ∷ code.operate op.Sub (t + a.value.temps) (a.value.result t) ∷ []) in let g = p.value t l in omega (arith, e, g))
@@ -341,7 +341,7 @@ module _ (a : Naive) (x : Weight) (p : Counted a x) where
       logical_counted of _ _ _ (λ t l. let e = truth_most (naive.denied a.test) (x.total + 3) (λ sense target next t l. p.test (not sense) target next t l) t l in omega (arith, e))
       (λ sense target next t l. let g = p.test (not sense) target next t l in omega (arith, g))
 
-  convert_counted : (of : CType) → Counted (naive.plain of (naive.then_on a.value 1 (λ d. (d + 1) ∷ []) (λ v s. naive.narrowed of v s))) (value (conversion_weight of + x.total))
+  convert_counted : (of : CType) → Counted (naive.plain of (naive.then_on a.value 1 (λ d. (d + 1) ∷ []) (λ v s. naive.narrowed of v s))) (weighing (conversion_weight of + x.total))
   convert_counted of =
       plain_counted of (naive.then_on a.value 1 (λ d. (d + 1) ∷ []) (λ v s. naive.narrowed of v s)) _
       (λ t l.
@@ -349,7 +349,7 @@ module _ (a : Naive) (x : Weight) (p : Counted a x) where
       let g = p.value t l in let g1 = converted_most of (a.value.result t) (t + a.value.temps) in
       omega (arith, e, g, g1))
 
-conditional_counted : (of : CType) (a b d : Naive) (x y z : Weight) → Counted a x → Counted b y → Counted d z → Counted (naive.plain of (naive.chosen a.test b.value d.value)) (value (8 + x.total + y.total + z.total))
+conditional_counted : (of : CType) (a b d : Naive) (x y z : Weight) → Counted a x → Counted b y → Counted d z → Counted (naive.plain of (naive.chosen a.test b.value d.value)) (weighing (8 + x.total + y.total + z.total))
 conditional_counted of a b d x y z p q r = plain_counted of (naive.chosen a.test b.value d.value) _ bound
   where
     bound : (t l : ℕ) → most_in ((naive.chosen a.test b.value d.value).ops t l) ≤ 8 + x.total + y.total + z.total
@@ -372,20 +372,20 @@ both_so true b e = (refl, e)
 both_so false b e = absurd (grind (arith, e))
 
 -- a name that is not an array's is kept in a temporary or in a word
-pub data IsKept (p : Place) : Storage → Type 0 where
-  temporary : (n : ℕ) → p ≡ place.Local → IsKept p (Temporary n)
-  word : (y : ℕ) → p ≡ place.Static → IsKept p (Word y)
-  nothing : IsKept p Missing
+pub data IsKept (p : Place) (s : Storage) : Type 0 where
+  temporary : (n : ℕ) → s ≡ Temporary n → p ≡ place.Local → IsKept p s
+  word : (y : ℕ) → s ≡ Word y → p ≡ place.Static → IsKept p s
+  nothing : s ≡ Missing → IsKept p s
 
 kept_gets : (p : Place) (s : Storage) → IsKept p s → (v a t : ℕ) → most_in (naive.got_from s v a t) ≤ gets_most p
-kept_gets p s (temporary n e) v a t = subst (λ p. 1 + 0 ≤ gets_most p) (sym e) (omega arith)
-kept_gets p s (word y e) v a t = subst (λ p. 1 + (1 + 0) ≤ gets_most p) (sym e) (omega arith)
-kept_gets p s nothing v a t = omega arith
+kept_gets p s (temporary n i e) v a t = subst (λ s. most_in (naive.got_from s v a t) ≤ gets_most p) (sym i) (subst (λ p. 1 ≤ gets_most p) (sym e) (omega arith))
+kept_gets p s (word y i e) v a t = subst (λ s. most_in (naive.got_from s v a t) ≤ gets_most p) (sym i) (subst (λ p. 2 ≤ gets_most p) (sym e) (omega arith))
+kept_gets p s (nothing i) v a t = subst (λ s. most_in (naive.got_from s v a t) ≤ gets_most p) (sym i) (omega arith)
 
 kept_puts : (p : Place) (s : Storage) → IsKept p s → (a v t : ℕ) → most_in (naive.put_into s a v t) ≤ puts_most p
-kept_puts p s (temporary n e) a v t = subst (λ p. 1 + 0 ≤ puts_most p) (sym e) (omega arith)
-kept_puts p s (word y e) a v t = subst (λ p. 1 + (1 + 0) ≤ puts_most p) (sym e) (omega arith)
-kept_puts p s nothing a v t = omega arith
+kept_puts p s (temporary n i e) a v t = subst (λ s. most_in (naive.put_into s a v t) ≤ puts_most p) (sym i) (subst (λ p. 1 ≤ puts_most p) (sym e) (omega arith))
+kept_puts p s (word y i e) a v t = subst (λ s. most_in (naive.put_into s a v t) ≤ puts_most p) (sym i) (subst (λ p. 2 ≤ puts_most p) (sym e) (omega arith))
+kept_puts p s (nothing i) a v t = subst (λ s. most_in (naive.put_into s a v t) ≤ puts_most p) (sym i) (omega arith)
 
 kept_reads : (p : Place) (s : Storage) → IsKept p s → gets_most p ≤ read_weight p
 kept_reads place.Local s k = omega arith
@@ -420,24 +420,24 @@ element_counted of s i x p = record {
 
 module _ (kept : List ℕ) (w : ℕ) (t : Typed) (f : Function) where
   kept_static : (x : ℕ) (o : Option Static) → not (is_array (kind_of (object_of o))) ≡ true → IsKept place.Static (static_in x o)
-  kept_static x None h = nothing
+  kept_static x None h = nothing refl
   kept_static x (Some s) h = by_length s.object.length h
     where
       by_length : (l : Option ℕ) → not (is_array (kind_by s.object.element l)) ≡ true → IsKept place.Static (static_storage x s.object.element l)
-      by_length None g = word x refl
+      by_length None g = word x refl refl
       by_length (Some n) g = absurd (grind (arith, g))
 
   kept_local : (temp offset : ℕ) (o : Option Thing) → not (is_array (kind_of o)) ≡ true → IsKept place.Local (local_in temp offset o)
-  kept_local temp offset None h = nothing
+  kept_local temp offset None h = nothing refl
   kept_local temp offset (Some o) h = by_length o.length h
     where
       by_length : (l : Option ℕ) → not (is_array (kind_by o.element l)) ≡ true → IsKept place.Local (local_storage temp offset o.element l)
-      by_length None g = temporary temp refl
+      by_length None g = temporary temp refl refl
       by_length (Some n) g = absurd (grind (arith, g))
 
   kept_in : (x : Variable) → not (is_array (kind_in t f x)) ≡ true → IsKept (place_of x) (storage_of kept w t f x)
   kept_in (variable.Static x) h = kept_static x (slice_get t.statics x) h
-  kept_in (variable.Parameter x) h = temporary x refl
+  kept_in (variable.Parameter x) h = temporary x refl refl
   kept_in (variable.Local x) h = kept_local _ _ (slice_get f.locals x) h
 
   -- ---- all nodes

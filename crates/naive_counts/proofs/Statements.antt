@@ -1,7 +1,6 @@
 -- The code of a statement takes no more transfers than the statement weighs; a case keeps three for the switch that it stands in.
 use Rattle.std.proofs.Common.{◌≡◌, ℕ, zero, suc, ◌+◌, ◌*◌, ◌≤◌, List, [], ◌∷◌, ◌++◌, map, Option, Some, None, refl, sym, ap, ◌∙◌, subst, arith, true, false}
 use Rattle.std.specs.Prelude.{Bool, ◌&&◌, length, slice_get, nat_lt, if◌then◌else◌}
-use Rattle.std.specs.List.{list_all}
 use Rattle.rtl_word.specs.declared.Rel.TheVariants.{Ne}
 use Rattle.c_tree.specs.declared.types.CType.{CType}
 use Rattle.c_tree.specs.declared.typed.Object.{Object as Thing}
@@ -26,7 +25,7 @@ use Rattle.naive_code.specs.Expressions.{Value, Test, Site, naive, put_into, put
 use Rattle.naive_code.specs.Statements as steps
 use Rattle.naive_code.specs.Statements.{Around, Steps, no_steps, joined, all_joined, used, dropped, enclosed, shifted}
 use Rattle.naive_counts.specs.Counts.{most_in}
-use Rattle.naive_counts.specs.Names.{or_true, all_true, expression_names, option_names, init_names, locals_names, start_names, names_by, names_scalars}
+use Rattle.naive_counts.specs.Names.{or_true, all_true, expression_names, option_names, list_names, init_names, locals_names, start_names, names_by, names_scalars}
 use Rattle.naive_counts.proofs.Longest.{most_append}
 use Rattle.naive_counts.proofs.Folds.{Three, statements_relate}
 use Rattle.naive_counts.proofs.Expressions.{both_so, put_most, put_into_most, site, expression_within}
@@ -107,7 +106,7 @@ module _ (kept : List ℕ) (w : ℕ) (t : Typed) (f : Function) where
   put_element_takes (Word y) i e h = more _ 0 _ (omega arith) no_takes
   put_element_takes Missing i e h = more _ 0 _ (omega arith) no_takes
 
-  put_elements_take : (s : Storage) (i : ℕ) (es : List TypedExpr) → list_all (expression_names t f) es ≡ true → Takes (steps.put_elements here s i es) (each_of 12 es)
+  put_elements_take : (s : Storage) (i : ℕ) (es : List TypedExpr) → list_names t f es ≡ true → Takes (steps.put_elements here s i es) (each_of 12 es)
   put_elements_take s i [] so = no_takes
   put_elements_take s i (e ∷ es) so =
       let b = both_so _ _ so in

@@ -1,6 +1,5 @@
 -- Typed trees in which no array is named but by its elements (C11 6.3.2.1p3 has no other use of one here).
-use Rattle.std.specs.Prelude.{ℕ, ◌&&◌, not, Bool, true, List, Option, Some, None}
-use Rattle.std.specs.List.{list_all}
+use Rattle.std.specs.Prelude.{ℕ, ◌&&◌, not, Bool, true, List, [], ◌∷◌, Option, Some, None}
 use Rattle.c_tree.specs.declared.typed.TypedExpr.{TypedExpr}
 use Rattle.c_tree.specs.declared.typed.TypedExpr.TheOpen.{TypedExpr-F, Comma, Assign, Compound, Conditional, Binary, Unary, Before, After, Constant, Object, Element, Call, Convert}
 use Rattle.c_tree.specs.declared.typed.TypedExpr.TheFolds.{fold-TypedExpr}
@@ -22,7 +21,8 @@ or_true None = true
 or_true (Some b) = b
 
 abbrev pub all_true : List Bool → Bool
-all_true bs = list_all (λ b. b) bs
+all_true [] = true
+all_true (b ∷ bs) = b && all_true bs
 
 module _ (t : Typed) (f : Function) where
   abbrev pub names_in : TypedExpr-F Bool → Bool
@@ -47,13 +47,18 @@ module _ (t : Typed) (f : Function) where
   option_names None = true
   option_names (Some e) = expression_names e
 
+  abbrev pub list_names : List TypedExpr → Bool
+  list_names [] = true
+  list_names (e ∷ es) = expression_names e && list_names es
+
   abbrev pub init_names : LocalInit → Bool
   init_names init.Absent = true
   init_names (init.Value e) = expression_names e
-  init_names (init.List es) = list_all expression_names es
+  init_names (init.List es) = list_names es
 
   abbrev pub locals_names : List Local → Bool
-  locals_names = list_all (λ l. init_names l.init)
+  locals_names [] = true
+  locals_names (l ∷ ls) = init_names l.init && locals_names ls
 
   abbrev pub start_names : Start → Bool
   start_names start.Absent = true

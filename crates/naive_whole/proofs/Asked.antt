@@ -1,5 +1,5 @@
 -- Stands in for naive_function until it is there.
-use Rattle.std.proofs.Common.{◌≡◌, ℕ, suc, ◌+◌, ◌*◌, ◌/◌, ◌≤◌, ◌<◌, List, [], Option, Some, None, true}
+use Rattle.std.proofs.Common.{◌≡◌, ℕ, suc, ◌+◌, ◌*◌, ◌/◌, ◌≤◌, ◌<◌, List, [], Option, Some, true}
 use Rattle.std.specs.Prelude.{slice_get, slice_index}
 use Rattle.behaviour.specs.Run.{AreBytes}
 use Rattle.behaviour.specs.Steps.{Stops}

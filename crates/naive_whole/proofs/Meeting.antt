@@ -1,9 +1,8 @@
 -- The example meets all premises of the law.
-use Rattle.std.proofs.Common.{◌≡◌, ◌≢◌, ℕ, zero, suc, ◌+◌, ◌*◌, ◌%◌, ◌<◌, ◌≤◌, ◌^◌, List, [], ◌∷◌, ◌++◌, Option, Some, None, Ok, refl, sym, ap, ◌∙◌, subst, arith, true, inl}
-use Rattle.std.specs.Prelude.{slice_get, slice_index, unwrap_or, All}
+use Rattle.std.proofs.Common.{◌≡◌, ℕ, zero, suc, ◌+◌, ◌*◌, ◌%◌, ◌<◌, ◌≤◌, List, [], ◌∷◌, ◌++◌, Some, None, refl, sym, ap, ◌∙◌, subst, arith, true, inl}
+use Rattle.std.specs.Prelude.{slice_get, slice_index, length, unwrap_or, All}
 use Rattle.std.proofs.lemmas.List.Elements.{All-cons, All-nil}
 use Rattle.behaviour.specs.Behaviour.{Ended}
-use Rattle.behaviour.specs.Run.{Same}
 use Rattle.rtl_tree.specs.Moves.{Move}
 use Rattle.rtl_norm.specs.Transfers.{IsMoveFitting}
 use Rattle.md_shapes.specs.declared.patterns.Pattern.{Pattern}
@@ -12,12 +11,19 @@ use Rattle.md_filled.specs.Doing.{DoesAs}
 use Rattle.c_tree.specs.declared.typed.TypedExpr.TheFolds.{fold-roll-TypedExpr}
 use Rattle.c_tree.specs.declared.typed.Stat.TheFolds.{fold-roll-Stat}
 use Rattle.c_tree.specs.declared.typed.Function.{Function}
-use Rattle.c_tree.specs.declared.typed.Static.{Static}
+use Rattle.c_tree.specs.declared.typed.Static.{Static as Value}
+use Rattle.c_tree.specs.declared.typed.Object.{Object as Thing}
+use Rattle.c_tree.specs.declared.typed.TypedExpr.{TypedExpr}
+use Rattle.c_tree.specs.declared.typed.TypedExpr.TheOpen.{Constant, Object, Binary, Call}
+use Rattle.c_tree.specs.declared.typed.Stat.TheOpen.{Block, Return}
+use Rattle.c_tree.specs.declared.typed.Variable.TheVariants.{Parameter, Static}
+use Rattle.c_tree.specs.declared.typed.Callee.TheVariants.{Defined}
+use Rattle.c_tree.specs.declared.syntax.BinaryOperator.TheVariants.{Add}
 use Rattle.c_limits.specs.Frames.{frame_bytes, object_bytes}
-use Rattle.c_meaning.specs.Sketches.{object}
+use Rattle.c_meaning.specs.Sketches.{of_int, somewhere, number, two, call, return, block, object}
 use Rattle.c_tree.specs.declared.types.CType.TheVariants as type
 use Rattle.c_meaning.specs.Settings.{setting_of}
-use Rattle.c_meaning.specs.Run.{IsClean, listed, source_run}
+use Rattle.c_meaning.specs.Run.{IsClean, is_main, listed, source_run}
 use Rattle.c_meaning.proofs.Runs.{ended_is_clean}
 use Rattle.temp_machine.specs.Routines.{Returns, Routine}
 use Rattle.temp_machine.specs.Machine.{position, first_byte}
@@ -26,12 +32,14 @@ use Rattle.temp_machine.specs.Units.{IsTarget}
 use Rattle.temp_machine.specs.Live.{Place, Transfer, End, item_at}
 use Rattle.naive_code.specs.Operations.{Op, Make, Close, on_two, with_number, with_symbol, copy, constant, address, load, add, load_home, store_top, read_result, set_result}
 use Rattle.naive_code.specs.Operations as code
-use Rattle.naive_code.specs.Functions.{function_ops}
+use Rattle.naive_code.specs.Storage.{Missing, scalar_count}
+use Rattle.naive_code.specs.Expressions.{Naive, Site, naive, naive_node}
+use Rattle.naive_code.specs.Statements.{Steps, no_steps, joined, used, enclosed, leaving, node_steps, steps_of}
+use Rattle.naive_code.specs.Functions.{site_of, entry_from, body_steps, ending, nowhere, function_ops}
 use Rattle.naive_run.specs.Standing.{shaped, One, Stands}
 use Rattle.naive_run.specs.Sound.{is_sound}
-use Rattle.naive_run.specs.Law.{IsFixedBy, IsSoundTarget, IsUnitOf, Expands, HoldsStatic, run_of}
-use Rattle.naive_whole.specs.Example.{adding, starting, source, target, fixed, image, routine, routines, adding_code, starting_code, calling, PremisesAreMet, EndsAsItsSource}
-use Rattle.naive_whole.proofs.Whole.{naive_is_same}
+use Rattle.naive_run.specs.Law.{IsFixedBy, IsSoundTarget, IsUnitOf, Expands, HoldsStatic}
+use Rattle.naive_whole.specs.Example.{parameter, static, adding, starting, source, target, fixed, image, routine, adding_code, starting_code, calling, PremisesAreMet}
 
 -- a transfer does as itself
 does_itself : (w : ℕ) (ms : List Move) → DoesAs w ms ms
@@ -62,6 +70,22 @@ module _ (r : Routine) where
   returns_to : (l : ℕ) (p : Place) → item_at r p ≡ Some (End Returns) → position r.blocks l 0 ≡ suc p.block → One 16 fixed r (Close code.Returns l) p (record { block = suc p.block; at = 0 })
   returns_to l p at found = (p, (at, refl), found, refl)
 
+-- ---- the operations of a function that returns a value
+
+abbrev ops_by : Function → (label frame : ℕ) → Steps → List Op
+ops_by f l frame s = entry_from 2 (frame + 2) 0 (length f.params) ++ (s.ops nowhere (scalar_count f) (l + 1) ++ ending (is_main f) (scalar_count f + s.temps))
+
+ops_are : (f : Function) (l frame : ℕ) (s : Steps) → frame_bytes [] 16 f ≡ frame → body_steps [] 16 source f ≡ s → function_ops [] 16 2 source f l ≡ ops_by f l frame s
+ops_are f l frame s e g = ap (λ n. ops_by f l n (body_steps [] 16 source f)) e ∙ ap (ops_by f l frame) g
+
+abbrev returning : Naive → Steps
+returning n = enclosed (joined (joined (used n.value [] (λ r t. set_result r ∷ [])) (leaving (record { bits = 16; storage = λ x. Missing }) [] (λ a. code.Returns))) no_steps)
+
+body_is : (c : Site) (locals : List Thing) (e : TypedExpr) (n : Naive) → naive c e ≡ n → steps_of c locals (block (return e ∷ [])) ≡ returning n
+body_is c locals e n is =
+    fold-roll-Stat Steps (node_steps c locals) (Block somewhere (return e ∷ []))
+    ∙ (ap (λ p. enclosed (joined p no_steps)) (fold-roll-Stat Steps (node_steps c locals) (Return somewhere (Some e))) ∙ ap returning is)
+
 abbrev place : ℕ → ℕ → Place
 place block at = record { block = block; at = at }
 
@@ -73,8 +97,27 @@ adding_ops = load_home 0 60 ∷ copy 1 0 ∷ address 2 0 ∷ load 2 2 ∷ add 1 
 abbrev adding_routine : Routine
 adding_routine = routine 1 adding adding_code
 
+abbrev adding_site : Site
+adding_site = site_of [] 16 source adding
+
+abbrev sum_code : Naive
+sum_code = naive_node adding_site (Binary (of_int 1) (naive_node adding_site (Object (of_int 1) (Parameter 0))) Add (naive_node adding_site (Object (of_int 1) (Static 0))))
+
+sum_is : naive adding_site (two 1 (parameter 0) Add (static 0)) ≡ sum_code
+sum_is =
+    fold-roll-TypedExpr Naive (naive_node adding_site) (Binary (of_int 1) (parameter 0) Add (static 0))
+    ∙ (ap (λ a. naive_node adding_site (Binary (of_int 1) a Add (naive adding_site (static 0)))) (fold-roll-TypedExpr Naive (naive_node adding_site) (Object (of_int 1) (Parameter 0)))
+    ∙ ap (λ b. naive_node adding_site (Binary (of_int 1) (naive_node adding_site (Object (of_int 1) (Parameter 0))) Add b))
+    (fold-roll-TypedExpr Naive (naive_node adding_site) (Object (of_int 1) (Static 0))))
+
+adding_body : body_steps [] 16 source adding ≡ returning sum_code
+adding_body = body_is adding_site [] (two 1 (parameter 0) Add (static 0)) sum_code sum_is
+
+adding_frame : frame_bytes [] 16 adding ≡ 58
+adding_frame = simp (fold-roll-Stat, fold-roll-TypedExpr) refl
+
 adding_is : function_ops [] 16 2 source adding 10 ≡ adding_ops
-adding_is = simp (fold-roll-Stat, fold-roll-TypedExpr) refl
+adding_is = ops_are adding 10 58 (returning sum_code) adding_frame adding_body
 
 adding_stands : Stands 16 fixed adding_routine adding_ops (place 0 0) (place 1 0)
 adding_stands = (
@@ -106,8 +149,23 @@ starting_ops = constant 0 5 ∷ store_top 0 ∷ Close (code.Calls 0) 21 ∷ read
 abbrev starting_routine : Routine
 starting_routine = routine 0 starting starting_code
 
+abbrev starting_site : Site
+starting_site = site_of [] 16 source starting
+
+abbrev call_code : Naive
+call_code = naive_node starting_site (Call (of_int 1) (Defined 0) (naive_node starting_site (Constant (of_int 1) 5) ∷ []))
+
+call_is : naive starting_site (call 1 (Defined 0) (number 1 5 ∷ [])) ≡ call_code
+call_is = simp fold-roll-TypedExpr refl
+
+starting_body : body_steps [] 16 source starting ≡ returning call_code
+starting_body = body_is starting_site [] (call 1 (Defined 0) (number 1 5 ∷ [])) call_code call_is
+
+starting_frame : frame_bytes [] 16 starting ≡ 54
+starting_frame = simp (fold-roll-Stat, fold-roll-TypedExpr) refl
+
 starting_is : function_ops [] 16 2 source starting 20 ≡ starting_ops
-starting_is = simp (fold-roll-Stat, fold-roll-TypedExpr) refl
+starting_is = ops_are starting 20 54 (returning call_code) starting_frame starting_body
 
 starting_stands : Stands 16 fixed starting_routine starting_ops (place 0 0) (place 2 2)
 starting_stands = (
@@ -158,12 +216,12 @@ is_target = record {
 machine : IsSoundTarget target image
 machine = record {
   target = is_target;
-  bytes = All-cons _ 7 (0 ∷ []) (omega arith) (All-cons _ 0 [] (omega arith) (All-nil _));
-  symbols = All-cons _ 1000 [] (omega arith) (All-nil _);
+  bytes = All-cons (λ b. b < 256) 7 (0 ∷ []) (omega arith) (All-cons (λ b. b < 256) 0 [] (omega arith) (All-nil (λ b. b < 256)));
+  symbols = All-cons (λ a. a < 65536) 1000 [] (omega arith) (All-nil (λ a. a < 65536));
   room = omega arith;
 }
 
-abbrev the_static : Static
+abbrev the_static : Value
 the_static = record { object = object type.Int None; init = 7 ∷ [] }
 
 holds_static : HoldsStatic target image 0 the_static
@@ -184,11 +242,11 @@ unit = record { main = refl; functions = functions; statics = statics; apart = a
     functions (suc zero) f e = (20, subst (λ h. Expands target fixed source h 20 starting_routine) (ap (λ o. unwrap_or o starting) e) starting_expands)
     functions (suc (suc g)) f e = none_there f e
 
-    statics : (x : ℕ) (s : Static) → slice_get source.statics x ≡ Some s → HoldsStatic target image x s
+    statics : (x : ℕ) (s : Value) → slice_get source.statics x ≡ Some s → HoldsStatic target image x s
     statics zero s e = subst (HoldsStatic target image 0) (ap (λ o. unwrap_or o the_static) e) holds_static
     statics (suc x) s e = none_there s e
 
-    apart : (x y : ℕ) (s r : Static) → x < y → slice_get source.statics x ≡ Some s → slice_get source.statics y ≡ Some r
+    apart : (x y : ℕ) (s r : Value) → x < y → slice_get source.statics x ≡ Some s → slice_get source.statics y ≡ Some r
         → slice_index image.symbols x + object_bytes 16 s.object ≤ slice_index image.symbols y
     apart x zero s r lt e f = absurd (omega (arith, lt))
     apart x (suc y) s r lt e f = none_there r f
@@ -203,9 +261,4 @@ sound : is_sound [] 16 source ≡ true
 sound = simp (fold-roll-Stat, fold-roll-TypedExpr) refl
 
 pub premises_are_met : PremisesAreMet
-premises_are_met = record { fixed = fixed_by; machine = machine; sound = sound; unit = unit; clean = clean }
-
-pub ends_as_its_source : EndsAsItsSource
-ends_as_its_source =
-    let same = naive_is_same target fixed source image fixed_by machine sound unit [] (All-nil (λ byte. byte < 256)) clean in
-    (runs, same.ends 2 [] 12 runs)
+premises_are_met = record { fixed_by = fixed_by; machine = machine; sound = sound; unit = unit; clean = clean }

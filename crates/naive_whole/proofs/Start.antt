@@ -1,5 +1,5 @@
 -- Before main is called, the values of the objects of the file stand at their addresses.
-use Rattle.std.proofs.Common.{◌≡◌, ℕ, zero, suc, ◌+◌, ◌*◌, ◌/◌, ◌%◌, ◌^◌, ◌<◌, List, [], Option, Some, None, refl, sym, ap, ◌∙◌, subst, arith}
+use Rattle.std.proofs.Common.{◌≡◌, ℕ, ◌+◌, ◌*◌, ◌/◌, ◌%◌, ◌^◌, ◌<◌, List, Option, Some, None, refl, ap, ◌∙◌, subst, arith}
 use Rattle.std.specs.Prelude.{slice_get, slice_index, unwrap_or}
 use Rattle.std.proofs.Math.Nat.{mod-eq_of_lt}
 use Rattle.rtl_word.specs.Words.{IsWordSize}
@@ -11,7 +11,7 @@ use Rattle.c_tree.specs.declared.typed.Static.{Static}
 use Rattle.c_tree.specs.declared.typed.Typed.{Typed}
 use Rattle.c_limits.specs.Frames.{element_bytes}
 use Rattle.c_meaning.specs.Operators.{as_type}
-use Rattle.c_meaning.specs.Expressions.{Kind, missing, scalar, array, type_in}
+use Rattle.c_meaning.specs.Expressions.{Kind, scalar, array, type_in}
 use Rattle.c_meaning.specs.Run.{kind_of, kind_by, object_of, listed, at_start}
 use Rattle.temp_machine.specs.Routines.{Image, Target}
 use Rattle.temp_machine.specs.Machine.{first_byte}

@@ -1,8 +1,8 @@
 -- The run of a source and that of its naive code come as far as each bound with the same output, or end alike.
-use Rattle.std.proofs.Common.{◌≡◌, ℕ, suc, ◌+◌, ◌≤◌, List, [], ◌++◌, refl, sym, ap, ◌∙◌, arith}
-use Rattle.behaviour.specs.Behaviour.{Behaviour, Running, Ended, Failed}
-use Rattle.behaviour.specs.Run.{Run, NeverFails, Same, AreBytes, Reach, both_run, both_end}
-use Rattle.behaviour.specs.Steps.{Stops, run}
+use Rattle.std.proofs.Common.{◌≡◌, ℕ, suc, List, refl, ap, ◌∙◌, arith}
+use Rattle.behaviour.specs.Behaviour.{Ended}
+use Rattle.behaviour.specs.Run.{NeverFails, Reach, both_run, both_end}
+use Rattle.behaviour.specs.Steps.{Stops}
 use Rattle.behaviour.proofs.Reaching.{reach_same}
 use Rattle.behaviour.proofs.Sameness.{same_trans, target_never_fails}
 use Rattle.behaviour.proofs.Stepping.{run_is_run, comes_then_ends}

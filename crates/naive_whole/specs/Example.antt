@@ -1,5 +1,5 @@
 -- A program and its naive code, by which all premises of the law are met: `int s=7;int f(int a){return a+s;}int main(void){return f(5);}`
-use Rattle.std.specs.Prelude.{◌≡◌, ℕ, zero, suc, ◌==◌, true, List, [], ◌∷◌, Some, None}
+use Rattle.std.specs.Prelude.{◌≡◌, ℕ, zero, suc, ◌==◌, true, List, [], ◌∷◌, None, codes}
 use Rattle.behaviour.specs.Behaviour.{Ended}
 use Rattle.rtl_tree.specs.declared.cells.Cell.TheVariants.{Temp}
 use Rattle.rtl_tree.specs.declared.cells.Lab.TheVariants as label
@@ -11,7 +11,6 @@ use Rattle.c_tree.specs.declared.types.CType.TheVariants as type
 use Rattle.c_tree.specs.declared.syntax.BinaryOperator.TheVariants.{Add}
 use Rattle.c_tree.specs.declared.typed.Callee.TheVariants.{Defined}
 use Rattle.c_tree.specs.declared.typed.Variable.TheVariants as variable
-use Rattle.c_tree.specs.declared.typed.Static.{Static}
 use Rattle.c_tree.specs.declared.typed.TypedExpr.{TypedExpr}
 use Rattle.c_tree.specs.declared.typed.TypedExpr.TheOpen as expr
 use Rattle.c_tree.specs.declared.typed.TypedExpr.TheViews.{roll-TypedExpr}
@@ -23,9 +22,9 @@ use Rattle.c_meaning.specs.Settings.{setting_of}
 use Rattle.c_meaning.specs.Run.{IsClean}
 use Rattle.temp_machine.specs.Routines.{Calls, Returns, BasicBlock, Routine, no_routine, Image, Target}
 use Rattle.temp_machine.specs.Machine.{temporary_run}
-use Rattle.naive_code.specs.Operations.{Op, on_two, with_number, with_symbol}
+use Rattle.naive_code.specs.Operations.{on_two, with_number, with_symbol}
 use Rattle.naive_code.specs.Functions.{function_homes, slots_of, first_home_of}
-use Rattle.naive_run.specs.Standing.{Shaped, shaped, with_label}
+use Rattle.naive_run.specs.Standing.{Shaped, shaped}
 use Rattle.naive_run.specs.Sound.{is_sound}
 use Rattle.naive_run.specs.Law.{IsFixedBy, IsSoundTarget, IsUnitOf, run_of}
 
@@ -99,7 +98,7 @@ image = record { routines = routines; main = 1; symbols = 1000 ∷ []; bytes = 7
 -- ---- the premises of the law
 
 pub record PremisesAreMet : Type 0 where
-  pub fixed : IsFixedBy target fixed
+  pub fixed_by : IsFixedBy target fixed
   pub machine : IsSoundTarget target image
   pub sound : is_sound [] 16 source ≡ true
   pub unit : IsUnitOf target fixed source image

@@ -1,0 +1,4 @@
+pub mod Asked
+pub mod Start
+pub mod Whole
+mod Meeting

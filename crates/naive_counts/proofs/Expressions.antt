@@ -1,7 +1,8 @@
 -- The code of an expression takes no more transfers than the expression weighs, and that of its test three more.
-use Rattle.std.proofs.Common.{◌≡◌, ℕ, zero, suc, ◌+◌, ◌≤◌, List, [], ◌∷◌, ◌++◌, map, Option, Some, None, refl, sym, ap, ◌∙◌, subst, arith, true, false}
-use Rattle.std.specs.Prelude.{Bool, not, ◌&&◌, length, slice_get, take}
+use Rattle.std.proofs.Common.{◌≡◌, ℕ, zero, suc, ◌+◌, ◌≤◌, List, [], ◌∷◌, ◌++◌, map, Option, Some, None, refl, sym, subst, arith, true, false}
+use Rattle.std.specs.Prelude.{Bool, not, ◌&&◌, length, slice_get}
 use Rattle.rtl_word.specs.declared.Rel.{Rel}
+use Rattle.rtl_word.specs.declared.Rel.TheVariants.{Ne}
 use Rattle.c_tree.specs.declared.types.CType.{CType}
 use Rattle.c_tree.specs.declared.types.CType.TheVariants as type
 use Rattle.c_tree.specs.declared.syntax.Arithmetic.{Arithmetic}
@@ -24,18 +25,14 @@ use Rattle.c_tree.specs.declared.typed.TypedExpr.TheOpen.{TypedExpr-F, Comma, As
 use Rattle.c_tree.specs.declared.typed.TypedExpr.TheFolds.{map-TypedExpr}
 use Rattle.c_tree.specs.declared.typed.Function.{Function}
 use Rattle.c_tree.specs.declared.typed.Typed.{Typed}
-use Rattle.c_limits.specs.declared.weight.Place.{Place}
-use Rattle.c_limits.specs.declared.weight.Place.TheVariants as place
-use Rattle.c_limits.specs.declared.weight.Weight.{Weight}
-use Rattle.c_limits.specs.Frames.{word_bytes, arrays, scalars}
+use Rattle.c_limits.specs.Frames.{word_bytes}
 use Rattle.c_limits.specs.Weights.{place_of, read_weight, assigned_weight, operation_weight, binary_weight, unary_weight, conversion_weight, value as weighing, named, each, expression_weight, weight_in}
 use Rattle.c_meaning.specs.Operators.{Sort, computes, compares, logical, sort_of, relation_in, computed_in}
-use Rattle.c_meaning.specs.Expressions.{Kind, missing, scalar, array}
 use Rattle.c_meaning.specs.Run.{kind_in, kind_of, kind_by, object_of}
 use Rattle.naive_code.specs.Operations as code
 use Rattle.rtl_tree.specs.declared.expressions.BinOp.TheVariants as op
 use Rattle.naive_code.specs.Operations.{Op, Falls, Jumps, Close, Calls, constant, copy, read_result}
-use Rattle.naive_code.specs.Storage.{Base, Symbol, Frame, Storage, Temporary, Word, Elements, Missing, storage_of, local_in, local_storage, static_in, static_storage, arrays_from}
+use Rattle.naive_code.specs.Storage.{Base, Symbol, Frame, Storage, Temporary, Word, Elements, Missing, storage_of, local_in, local_storage, static_in, static_storage}
 use Rattle.naive_code.specs.Expressions as naive
 use Rattle.naive_code.specs.Expressions.{Value, Test, Designated, object, element, nowhere, Naive, Site}
 use Rattle.naive_code.specs.Functions.{site_of}
@@ -45,49 +42,31 @@ use Rattle.naive_counts.specs.Names.{names_in, expression_names, all_true}
 use Rattle.naive_counts.proofs.Longest.{most_append}
 use Rattle.naive_counts.proofs.Folds.{Three, expressions_relate}
 
--- ---- places
+-- the types of weights and of places, which have no name outside their crate
+abbrev type_of : {A : Type 0} → A → Type 0
+type_of {A} x = A
 
-abbrev opens_most : Place → ℕ
-opens_most place.Element = 6
-opens_most _ = 0
+abbrev pub Weight : Type 0
+Weight = type_of (weighing 0)
 
-abbrev gets_most : Place → ℕ
-gets_most place.Local = 1
-gets_most place.Static = 2
-gets_most place.Element = 4
-gets_most place.None = 0
-
-abbrev puts_most : Place → ℕ
-puts_most place.Local = 1
-puts_most place.Static = 2
-puts_most place.Element = 2
-puts_most place.None = 0
-
-abbrev settles_most : Place → ℕ
-settles_most place.Element = 1
-settles_most _ = 0
-
--- an assignment weighs what its place takes, and one that computes has room for a conversion and a copy besides
-assigned_room : (p : Place) → opens_most p + puts_most p + settles_most p ≤ assigned_weight p
-assigned_room place.Local = omega arith
-assigned_room place.Static = omega arith
-assigned_room place.Element = omega arith
-assigned_room place.None = omega arith
-
-changed_room : (p : Place) → opens_most p + gets_most p + puts_most p + settles_most p + 4 ≤ assigned_weight p + read_weight p + 4
-changed_room place.Local = omega arith
-changed_room place.Static = omega arith
-changed_room place.Element = omega arith
-changed_room place.None = omega arith
+abbrev Place : Type 0
+Place = type_of (place_of (variable.Local 0))
 
 -- what the code of an expression takes
 pub record Counted (n : Naive) (w : Weight) : Type 0 where
   pub value : (t l : ℕ) → most_in (n.value.ops t l) ≤ w.total
   pub test : (sense : Bool) (target next t l : ℕ) → most_in (n.test.ops sense target next t l) ≤ w.total + 3
-  pub opens : (t l : ℕ) → most_in ((naive.opened n.place).ops t l) ≤ w.inside + opens_most w.place
-  pub gets : (v a t : ℕ) → most_in (naive.got_from (naive.storage_in n.place) v a t) ≤ gets_most w.place
-  pub puts : (a v t : ℕ) → most_in (naive.put_into (naive.storage_in n.place) a v t) ≤ puts_most w.place
-  pub settles : (a v : ℕ) → most_in (naive.settled n.place a v) ≤ settles_most w.place
+  pub opens_most : ℕ
+  pub gets_most : ℕ
+  pub puts_most : ℕ
+  pub settles_most : ℕ
+  pub opens : (t l : ℕ) → most_in ((naive.opened n.place).ops t l) ≤ w.inside + opens_most
+  pub gets : (v a t : ℕ) → most_in (naive.got_from (naive.storage_in n.place) v a t) ≤ gets_most
+  pub puts : (a v t : ℕ) → most_in (naive.put_into (naive.storage_in n.place) a v t) ≤ puts_most
+  pub settles : (a v : ℕ) → most_in (naive.settled n.place a v) ≤ settles_most
+  -- an assignment weighs what its place takes, and one that computes has room for a conversion and a copy besides
+  pub assigned_room : opens_most + puts_most + settles_most ≤ assigned_weight w.place
+  pub changed_room : opens_most + gets_most + puts_most + settles_most + 4 ≤ assigned_weight w.place + read_weight w.place + 4
 
 -- ---- parts
 
@@ -166,7 +145,7 @@ element_most Missing i n h t l = omega arith
 
 -- a test of a value, and a value of a test
 test_most : (v : Value) (n : ℕ) → ((t l : ℕ) → most_in (v.ops t l) ≤ n) → (sense : Bool) (target next t l : ℕ) → most_in ((naive.test_of v).ops sense target next t l) ≤ n + 3
-test_most v n h sense target next t l = let e = most_append (v.ops t l) _ in let p = h t l in omega (arith, e, p)
+test_most v n h sense target next t l = let e = most_append (v.ops t l) (constant (t + v.temps) 0 ∷ Close (code.Branches (naive.relation_if sense Ne) (v.result t) (t + v.temps) target) next ∷ []) in let p = h t l in omega (arith, e, p)
 
 truth_most : (x : Test) (n : ℕ) → ((sense : Bool) (target next t l : ℕ) → most_in (x.ops sense target next t l) ≤ n) → (t l : ℕ) → most_in ((naive.value_of x).ops t l) ≤ n + 2
 truth_most x n h t l =
@@ -177,7 +156,20 @@ truth_most x n h t l =
 -- an expression that designates nothing
 logical_counted : (of : CType) (v : Value) (x : Test) (n : ℕ) → ((t l : ℕ) → most_in (v.ops t l) ≤ n) → ((sense : Bool) (target next t l : ℕ) → most_in (x.ops sense target next t l) ≤ n + 3)
     → Counted (naive.logical_value of v x) (weighing n)
-logical_counted of v x n h g = record { value = h; test = g; opens = λ t l. omega arith; gets = λ v a t. omega arith; puts = λ a v t. omega arith; settles = λ a v. omega arith }
+logical_counted of v x n h g = record {
+  value = h;
+  test = g;
+  opens_most = 0;
+  gets_most = 0;
+  puts_most = 0;
+  settles_most = 0;
+  opens = λ t l. omega arith;
+  gets = λ v a t. omega arith;
+  puts = λ a v t. omega arith;
+  settles = λ a v. omega arith;
+  assigned_room = omega arith;
+  changed_room = omega arith;
+}
 
 plain_counted : (of : CType) (v : Value) (n : ℕ) → ((t l : ℕ) → most_in (v.ops t l) ≤ n) → Counted (naive.plain of v) (weighing n)
 plain_counted of v n h = logical_counted of v (naive.test_of v) n h (test_most v n h)
@@ -219,7 +211,8 @@ module _ (a b : Naive) (x y : Weight) (p : Counted a x) (q : Counted b y) where
   compared_most : (r : Rel) (sense : Bool) (target next t l : ℕ) → most_in ((naive.compared r a.value b.value).ops sense target next t l) ≤ x.total + y.total + 2
   compared_most r sense target next t l =
       let u = t + a.value.temps in let k = l + a.value.labels in
-      let e = most_append (a.value.ops t l) _ in let e1 = most_append (b.value.ops u k) _ in
+      let last = Close (code.Branches (naive.relation_if sense r) (a.value.result t) (b.value.result u) target) next ∷ [] in
+      let e = most_append (a.value.ops t l) (b.value.ops u k ++ last) in let e1 = most_append (b.value.ops u k) last in
       let g = p.value t l in let g1 = q.value u k in
       omega (arith, e, e1, g, g1)
 
@@ -266,7 +259,7 @@ module _ (a b : Naive) (x y : Weight) (p : Counted a x) (q : Counted b y) where
           let last = naive.settled a.place (o.result t) r in
           let e = most_append (o.ops t l) (b.value.ops u k ++ (puts ++ last)) in let e1 = most_append (b.value.ops u k) (puts ++ last) in let e2 = most_append puts last in
           let g = p.opens t l in let g1 = q.value u k in let g2 = p.puts (o.result t) r (u + b.value.temps) in let g3 = p.settles (o.result t) r in
-          let room = assigned_room x.place in
+          let room = p.assigned_room in
           omega (arith, e, e1, e2, g, g1, g2, g3, room)
 
   compound_counted : (of : CType) (bytes : ℕ) (o : Operation) → Counted (naive.plain of (naive.compound bytes o a.of a.place b.of b.value)) (weighing (assigned_weight x.place + read_weight x.place + operation_weight o + 4 + x.inside + y.total))
@@ -287,7 +280,7 @@ module _ (a b : Naive) (x y : Weight) (p : Counted a x) (q : Counted b y) where
           let e2 = most_append o2 (o3 ++ (o4 ++ (o5 ++ o6))) in let e3 = most_append o3 (o4 ++ (o5 ++ o6)) in let e4 = most_append o4 (o5 ++ o6) in let e5 = most_append o5 o6 in
           let g = p.opens t m in let g1 = p.gets v (at.result t) (v + 1) in let g2 = q.value u (m + at.labels) in let g3 = combined_most bytes o a.of b.of v (b.value.result u) l in
           let g4 = narrowed_most a.of v fresh in let g5 = p.puts (at.result t) v (fresh + 1) in let g6 = p.settles (at.result t) v in
-          let room = changed_room x.place in
+          let room = p.changed_room in
           omega (arith, e, e1, e2, e3, e4, e5, g, g1, g2, g3, g4, g5, g6, room)
 
 module _ (a : Naive) (x : Weight) (p : Counted a x) where
@@ -308,7 +301,7 @@ module _ (a : Naive) (x : Weight) (p : Counted a x) where
           let e4 = most_append o4 (o5 ++ o6) in let e5 = most_append o5 o6 in
           let g = p.opens t l in let g1 = p.gets v (at.result t) (v + 1) in
           let g4 = narrowed_most a.of v (v + 3) in let g5 = p.puts (at.result t) v (v + 4) in let g6 = p.settles (at.result t) v in
-          let room = changed_room x.place in
+          let room = p.changed_room in
           omega (arith, e, e1, e4, e5, g, g1, g4, g5, g6, room)
 
   after_counted : (of : CType) (o : StepOperator) → Counted (naive.plain of (naive.stepped_after o a.of a.place)) (weighing (assigned_weight x.place + read_weight x.place + 2 + 4 + x.inside))
@@ -328,7 +321,7 @@ module _ (a : Naive) (x : Weight) (p : Counted a x) where
           let e4 = most_append o4 (o5 ++ o6) in let e5 = most_append o5 o6 in
           let g = p.opens t l in let g1 = p.gets v (at.result t) (v + 1) in
           let g4 = narrowed_most a.of n (v + 4) in let g5 = p.puts (at.result t) n (v + 5) in let g6 = p.settles (at.result t) v in
-          let room = changed_room x.place in
+          let room = p.changed_room in
           omega (arith, e, e1, e4, e5, g, g1, g4, g5, g6, room)
 
   unary_counted : (of : CType) (o : UnaryOperator) → Counted (naive.logical_value of (naive.one o a) (naive.truth_of_one o a)) (weighing (unary_weight o + x.total))
@@ -371,67 +364,95 @@ pub both_so : (a b : Bool) → (a && b) ≡ true → (a ≡ true) × (b ≡ true
 both_so true b e = (refl, e)
 both_so false b e = absurd (grind (arith, e))
 
+abbrev local_place : Place
+local_place = place_of (variable.Local 0)
+
+abbrev static_place : Place
+static_place = place_of (variable.Static 0)
+
 -- a name that is not an array's is kept in a temporary or in a word
-pub data IsKept (p : Place) (s : Storage) : Type 0 where
-  temporary : (n : ℕ) → s ≡ Temporary n → p ≡ place.Local → IsKept p s
-  word : (y : ℕ) → s ≡ Word y → p ≡ place.Static → IsKept p s
+data IsKept (p : Place) (s : Storage) : Type 0 where
+  temporary : (n : ℕ) → s ≡ Temporary n → p ≡ local_place → IsKept p s
+  word : (y : ℕ) → s ≡ Word y → p ≡ static_place → IsKept p s
   nothing : s ≡ Missing → IsKept p s
 
-kept_gets : (p : Place) (s : Storage) → IsKept p s → (v a t : ℕ) → most_in (naive.got_from s v a t) ≤ gets_most p
-kept_gets p s (temporary n i e) v a t = subst (λ s. most_in (naive.got_from s v a t) ≤ gets_most p) (sym i) (subst (λ p. 1 ≤ gets_most p) (sym e) (omega arith))
-kept_gets p s (word y i e) v a t = subst (λ s. most_in (naive.got_from s v a t) ≤ gets_most p) (sym i) (subst (λ p. 2 ≤ gets_most p) (sym e) (omega arith))
-kept_gets p s (nothing i) v a t = subst (λ s. most_in (naive.got_from s v a t) ≤ gets_most p) (sym i) (omega arith)
+-- its value and an assignment to it take so many
+record Moves (p : Place) (s : Storage) : Type 0 where
+  most : ℕ
+  gets : (v a t : ℕ) → most_in (naive.got_from s v a t) ≤ most
+  puts : (a v t : ℕ) → most_in (naive.put_into s a v t) ≤ most
+  read : most ≤ read_weight p
+  room : most ≤ assigned_weight p
 
-kept_puts : (p : Place) (s : Storage) → IsKept p s → (a v t : ℕ) → most_in (naive.put_into s a v t) ≤ puts_most p
-kept_puts p s (temporary n i e) a v t = subst (λ s. most_in (naive.put_into s a v t) ≤ puts_most p) (sym i) (subst (λ p. 1 ≤ puts_most p) (sym e) (omega arith))
-kept_puts p s (word y i e) a v t = subst (λ s. most_in (naive.put_into s a v t) ≤ puts_most p) (sym i) (subst (λ p. 2 ≤ puts_most p) (sym e) (omega arith))
-kept_puts p s (nothing i) a v t = subst (λ s. most_in (naive.put_into s a v t) ≤ puts_most p) (sym i) (omega arith)
-
-kept_reads : (p : Place) (s : Storage) → IsKept p s → gets_most p ≤ read_weight p
-kept_reads place.Local s k = omega arith
-kept_reads place.Static s k = omega arith
-kept_reads place.Element s k = omega arith
-kept_reads place.None s k = omega arith
+moves : (p : Place) (s : Storage) → IsKept p s → Moves p s
+moves p s (temporary n i e) =
+    subst (Moves p) (sym i) (subst (λ p. Moves p (Temporary n)) (sym e)
+    (record { most = 1; gets = λ v a t. omega arith; puts = λ a v t. omega arith; read = omega arith; room = omega arith }))
+moves p s (word y i e) =
+    subst (Moves p) (sym i) (subst (λ p. Moves p (Word y)) (sym e)
+    (record { most = 2; gets = λ v a t. omega arith; puts = λ a v t. omega arith; read = omega arith; room = omega arith }))
+moves p s (nothing i) =
+    subst (Moves p) (sym i)
+    (record { most = 0; gets = λ v a t. omega arith; puts = λ a v t. omega arith; read = omega arith; room = omega arith })
 
 name_counted : (of : CType) (s : Storage) (p : Place) → IsKept p s
     → Counted (record { of = of; value = naive.read_object s; test = naive.test_of (naive.read_object s); place = object s }) (named p 0)
 name_counted of s p k = record {
   value = bound;
   test = test_most (naive.read_object s) (read_weight p + 0) bound;
+  opens_most = 0;
+  gets_most = z.most;
+  puts_most = z.most;
+  settles_most = 0;
   opens = λ t l. omega arith;
-  gets = kept_gets p s k;
-  puts = kept_puts p s k;
+  gets = z.gets;
+  puts = z.puts;
   settles = λ a v. omega arith;
+  assigned_room = let e = z.room in omega (arith, e);
+  changed_room = let e = z.room in let r = z.read in omega (arith, e, r);
 }
   where
+    z : Moves p s
+    z = moves p s k
+
     bound : (t l : ℕ) → most_in ((naive.read_object s).ops t l) ≤ read_weight p + 0
-    bound t l = let e = kept_gets p s k t 0 0 in let r = kept_reads p s k in omega (arith, e, r)
+    bound t l = let e = z.gets t 0 0 in let r = z.read in omega (arith, e, r)
+
+-- the weight of an element, by that of its index
+abbrev element_weight : ℕ → Weight
+element_weight n = expression_weight (Element (record { of = type.Int; at = record { line = 1; column = 1 } }) (variable.Local 0) (weighing n))
 
 element_counted : (of : CType) (s : Storage) (i : Naive) (x : Weight) → Counted i x
-    → Counted (record { of = of; value = naive.read_element s i.value; test = naive.test_of (naive.read_element s i.value); place = element s i.value }) (named place.Element x.total)
+    → Counted (record { of = of; value = naive.read_element s i.value; test = naive.test_of (naive.read_element s i.value); place = element s i.value }) (element_weight x.total)
 element_counted of s i x p = record {
   value = element_most s i.value x.total p.value;
   test = test_most (naive.read_element s i.value) (12 + x.total) (element_most s i.value x.total p.value);
+  opens_most = 6;
+  gets_most = 4;
+  puts_most = 2;
+  settles_most = 1;
   opens = address_most s i.value x.total p.value;
   gets = got_most s;
   puts = put_into_most s;
   settles = λ a v. omega arith;
+  assigned_room = omega arith;
+  changed_room = omega arith;
 }
 
 module _ (kept : List ℕ) (w : ℕ) (t : Typed) (f : Function) where
-  kept_static : (x : ℕ) (o : Option Static) → not (is_array (kind_of (object_of o))) ≡ true → IsKept place.Static (static_in x o)
+  kept_static : (x : ℕ) (o : Option Static) → not (is_array (kind_of (object_of o))) ≡ true → IsKept static_place (static_in x o)
   kept_static x None h = nothing refl
   kept_static x (Some s) h = by_length s.object.length h
     where
-      by_length : (l : Option ℕ) → not (is_array (kind_by s.object.element l)) ≡ true → IsKept place.Static (static_storage x s.object.element l)
+      by_length : (l : Option ℕ) → not (is_array (kind_by s.object.element l)) ≡ true → IsKept static_place (static_storage x s.object.element l)
       by_length None g = word x refl refl
       by_length (Some n) g = absurd (grind (arith, g))
 
-  kept_local : (temp offset : ℕ) (o : Option Thing) → not (is_array (kind_of o)) ≡ true → IsKept place.Local (local_in temp offset o)
+  kept_local : (temp offset : ℕ) (o : Option Thing) → not (is_array (kind_of o)) ≡ true → IsKept local_place (local_in temp offset o)
   kept_local temp offset None h = nothing refl
   kept_local temp offset (Some o) h = by_length o.length h
     where
-      by_length : (l : Option ℕ) → not (is_array (kind_by o.element l)) ≡ true → IsKept place.Local (local_storage temp offset o.element l)
+      by_length : (l : Option ℕ) → not (is_array (kind_by o.element l)) ≡ true → IsKept local_place (local_storage temp offset o.element l)
       by_length None g = temporary temp refl refl
       by_length (Some n) g = absurd (grind (arith, g))
 

@@ -1,5 +1,5 @@
 -- A function's naive code takes no more transfers than the function weighs.
-use Rattle.std.proofs.Common.{◌≡◌, ℕ, zero, suc, ◌+◌, ◌*◌, ◌≤◌, List, [], ◌∷◌, ◌++◌, refl, arith}
+use Rattle.std.proofs.Common.{◌≡◌, ℕ, zero, suc, ◌+◌, ◌≤◌, ◌++◌, refl, arith}
 use Rattle.std.specs.Prelude.{Bool, true, false, length}
 use Rattle.c_limits.specs.Frames.{word_bytes, frame_bytes}
 use Rattle.c_meaning.specs.Run.{is_main}

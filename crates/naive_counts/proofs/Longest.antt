@@ -1,9 +1,9 @@
 -- No way to do an operation is longer than it counts, and what lists count adds up.
-use Rattle.std.proofs.Common.{◌≡◌, ℕ, zero, suc, ◌+◌, ◌≤◌, ◌<◌, List, [], ◌∷◌, ◌++◌, refl, ap, ◌∙◌, sym, subst, arith}
+use Rattle.std.proofs.Common.{◌≡◌, ℕ, zero, suc, ◌+◌, ◌≤◌, List, [], ◌∷◌, ◌++◌, subst, arith}
 use Rattle.std.specs.Prelude.{Bool, true, false, ◌==◌, if◌then◌else◌, length, Contains}
 use Rattle.naive_code.specs.Operations.{Op, Make, Meet, Scale, Extend, Close}
-use Rattle.naive_run.specs.Standing.{Shaped, ways}
-use Rattle.naive_counts.specs.Counts.{most, most_in, WaysAreCounted}
+use Rattle.naive_run.specs.Standing.{Shaped}
+use Rattle.naive_counts.specs.Counts.{most_in, WaysAreCounted}
 
 pub most_append : (xs ys : List Op) → most_in (xs ++ ys) ≡ most_in xs + most_in ys
 most_append [] ys = omega arith

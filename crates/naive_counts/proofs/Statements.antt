@@ -1,9 +1,7 @@
 -- The code of a statement takes no more transfers than the statement weighs; a case keeps three for the switch that it stands in.
-use Rattle.std.proofs.Common.{◌≡◌, ℕ, zero, suc, ◌+◌, ◌*◌, ◌≤◌, List, [], ◌∷◌, ◌++◌, map, Option, Some, None, refl, sym, ap, ◌∙◌, subst, arith, true, false}
-use Rattle.std.specs.Prelude.{Bool, ◌&&◌, length, slice_get, nat_lt, if◌then◌else◌}
+use Rattle.std.proofs.Common.{◌≡◌, ℕ, suc, ◌+◌, ◌*◌, ◌≤◌, List, [], ◌∷◌, ◌++◌, map, Option, Some, None, refl, ap, arith, true, false}
+use Rattle.std.specs.Prelude.{Bool, length, slice_get, nat_lt, if◌then◌else◌}
 use Rattle.rtl_word.specs.declared.Rel.TheVariants.{Ne}
-use Rattle.c_tree.specs.declared.types.CType.{CType}
-use Rattle.c_tree.specs.declared.typed.Object.{Object as Thing}
 use Rattle.c_tree.specs.declared.typed.TypedExpr.{TypedExpr}
 use Rattle.c_tree.specs.declared.typed.LocalInit.{LocalInit}
 use Rattle.c_tree.specs.declared.typed.LocalInit.TheVariants as init
@@ -16,16 +14,16 @@ use Rattle.c_tree.specs.declared.typed.Stat.TheFolds.{map-Stat}
 use Rattle.c_tree.specs.declared.typed.Function.{Function}
 use Rattle.c_tree.specs.declared.typed.Typed.{Typed}
 use Rattle.c_limits.specs.Frames.{element_bytes}
-use Rattle.c_limits.specs.Sums.{or_0, total}
+use Rattle.c_limits.specs.Sums.{total}
 use Rattle.c_limits.specs.Weights.{expr_weight, each_of, option_weight, length_of, init_weight, locals_weight, local_weight, start_weight, statement_weight, stat_weight}
 use Rattle.naive_code.specs.Operations as code
 use Rattle.naive_code.specs.Operations.{Op, Falls, Jumps, Branches, Close, constant, add, read_stack, set_result}
-use Rattle.naive_code.specs.Storage.{Base, Symbol, Frame, Storage, Temporary, Word, Elements, Missing}
-use Rattle.naive_code.specs.Expressions.{Value, Test, Site, naive, put_into, put_at}
+use Rattle.naive_code.specs.Storage.{Symbol, Frame, Storage, Temporary, Word, Elements, Missing}
+use Rattle.naive_code.specs.Expressions.{Site, naive, put_into, put_at}
 use Rattle.naive_code.specs.Statements as steps
 use Rattle.naive_code.specs.Statements.{Around, Steps, no_steps, joined, all_joined, used, dropped, enclosed, shifted}
 use Rattle.naive_counts.specs.Counts.{most_in}
-use Rattle.naive_counts.specs.Names.{or_true, all_true, expression_names, option_names, list_names, init_names, locals_names, start_names, names_by, names_scalars}
+use Rattle.naive_counts.specs.Names.{all_true, expression_names, option_names, list_names, init_names, locals_names, start_names, names_by, names_scalars}
 use Rattle.naive_counts.proofs.Longest.{most_append}
 use Rattle.naive_counts.proofs.Folds.{Three, statements_relate}
 use Rattle.naive_counts.proofs.Expressions.{both_so, put_most, put_into_most, site, expression_within}

@@ -44,14 +44,14 @@ same_test n m e = grind (arith, nat_tests, e)
 
 -- a register that isn't general isn't kept
 not_kept : (general : ℕ → Bool) (kept : List ℕ) (n : ℕ) → All (λ k. general k ≡ true) kept → general n ≡ false → list_any (λ k. k == n) kept ≡ false
-not_kept general [] n all no = refl
-not_kept general (k ∷ ks) n all no = by_test (k == n) refl
+not_kept general [] n all off = refl
+not_kept general (k ∷ ks) n all off = by_test (k == n) refl (not_kept general ks n (All-tail (λ k. general k ≡ true) k ks all) off)
   where
-    by_test : (b : Bool) → (k == n) ≡ b → list_any (λ k. k == n) (k ∷ ks) ≡ false
-    by_test true e =
+    by_test : (b : Bool) → (k == n) ≡ b → list_any (λ k. k == n) ks ≡ false → list_any (λ k. k == n) (k ∷ ks) ≡ false
+    by_test true e rest =
         let is : general n ≡ true = subst (λ z. general z ≡ true) (same_test k n e) (All-head (λ k. general k ≡ true) k ks all) in
-        absurd (let z : true ≡ false = sym is ∙ no in grind (arith, z))
-    by_test false e = rw e (not_kept general ks n (All-tail (λ k. general k ≡ true) k ks all) no)
+        absurd (let z : true ≡ false = sym is ∙ off in grind (arith, z))
+    by_test false e rest = rw e rest
 
 module _ (t : Target) (u : Image) (m : Fixed) (source : Typed) (f : Function) (k : Call) (ready : Ready t u m source f k) (g : ℕ) (h : Function) (vs : List ℕ) (p : Place) (c : Point) (s : State)
     (made : Made_call t u m source f k ready g h vs p c s) (symbols : All (λ a. a < 2 ^ t.word) u.symbols) where

@@ -40,11 +40,11 @@ not_more a b e = grind (arith, nat_tests, e)
 -- the first `main` is one
 main_found : (fs : List Function) (f : Function) → slice_get fs (main_in fs) ≡ Some f → is_main f ≡ true
 main_found [] f e = absurd (grind (arith, e))
-main_found (h ∷ hs) f e = by_test (is_main h) refl e
+main_found (h ∷ hs) f e = by_test (is_main h) refl (main_found hs f) e
   where
-    by_test : (b : Bool) → is_main h ≡ b → slice_get (h ∷ hs) (if b then 0 else suc (main_in hs)) ≡ Some f → is_main f ≡ true
-    by_test true is e = subst (λ z. is_main z ≡ true) (ap (λ o. unwrap_or o h) e) is
-    by_test false is e = main_found hs f e
+    by_test : (b : Bool) → is_main h ≡ b → (slice_get hs (main_in hs) ≡ Some f → is_main f ≡ true) → slice_get (h ∷ hs) (if b then 0 else suc (main_in hs)) ≡ Some f → is_main f ≡ true
+    by_test true is rest e = subst (λ z. is_main z ≡ true) (ap (λ o. unwrap_or o h) e) is
+    by_test false is rest e = rest e
 
 -- `main` has a value however it ends
 main_word : (spot : Spot) (fl : Flow) → (x : ℕ) × (value_at true spot fl ≡ word x)

@@ -125,7 +125,10 @@ module _ (t : Target) (u : Image) (m : Fixed) (source : Typed) (f : Function) (k
     loads vs zero i p q c count all inside at sp words done last =
         to_here t u m source f k ready p q (Loaded vs c) c last inside at (record {
           set = λ x v is. done x v (let lt = slice_get_within vs x v is in omega (arith, lt, count, all)) is;
-          stack = refl; bytes = λ b. refl; input = refl; printed = refl;
+          stack = refl;
+          bytes = λ b. refl;
+          input = refl;
+          printed = refl;
         })
     loads vs (suc n) i p q c count all inside at sp words done (r, one, rest) =
         let v = get_or vs i 0 in

@@ -188,7 +188,7 @@ module _ (t : Target) (u : Image) (m : Fixed) (source : Typed) (fixed : IsFixedB
     -- from its first point on
     pub runs : (d most : ℕ) → d ≤ most → (call : SourceCalls) → CallsDo t u m source f k ready d call → (spot : Spot)
         → Does t u d begins (Ends_back spot)
-          ((execution (record { bits = t.word; kind = kind_in source f; call = call }) most f.body).does (record { statics = statics; params = given vs; locals = blank; input = input }))
+        ((execution (record { bits = t.word; kind = kind_in source f; call = call }) most f.body).does (record { statics = statics; params = given vs; locals = blank; input = input }))
     runs d most le call calls spot =
         let expands = ready.expands in
         let body = body_steps t.kept t.word source f in

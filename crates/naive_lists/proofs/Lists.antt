@@ -72,12 +72,14 @@ module _ (t : Target) (u : Image) (m : Fixed) (source : Typed) (f : Function) (k
     listed (e ∷ es) typed few =
         let p = both_so _ _ typed in
         let q = both_so _ _ p.0 in
-        let r = expression_related t u m source f k ready n call calls e in
-        (record {
-          fresh = r.fresh;
-          same = subst (λ z. alike z of ≡ true) r.checked_of q.1;
-          does = r.value q.0 (left_few t u m source f k ready n call calls (arguments_of e) (in_list arguments_of es) few);
-        }, listed es p.1 (right_few t u m source f k ready n call calls (arguments_of e) (in_list arguments_of es) few))
+        let r = expression_related t u m source f k ready n call calls e in (
+          record {
+            fresh = r.fresh;
+            same = subst (λ z. alike z of ≡ true) r.checked_of q.1;
+            does = r.value q.0 (left_few t u m source f k ready n call calls (arguments_of e) (in_list arguments_of es) few);
+          },
+          listed es p.1 (right_few t u m source f k ready n call calls (arguments_of e) (in_list arguments_of es) few),
+        )
 
   -- the listed elements are set, and then what is left out
   both_do : (x size offset : ℕ) (of : CType) (es : List TypedExpr) → IsLocalArray t u m source f k ready x of size offset → length_of (slice_get f.locals x) ≡ size

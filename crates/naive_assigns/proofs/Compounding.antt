@@ -84,6 +84,7 @@ module _ (t : Target) (u : Image) (m : Fixed) (source : Typed) (f : Function) (k
         at = at';
         rep = rep';
         count = args_count t u m source f k ready n call calls ℕ an_int standing (a ∷ b ∷ []) helps.helper.params 0 (x ∷ y ∷ []) c (helps.fit a b) hold;
+        room = (let fits : length (x ∷ y ∷ []) ≤ outgoing t u m source f k ready = omega arith in fits);
         words = word_stored t u m source f k ready (x ∷ y ∷ []) c e g';
         typed = λ i v o got_o got. args_typed t u m source f k ready n call calls ℕ an_int standing (a ∷ b ∷ []) helps.helper.params 0 (x ∷ y ∷ []) c (helps.fit a b) hold i v o got_o got;
       }))

@@ -75,6 +75,7 @@ module _ (t : Target) (u : Image) (m : Fixed) (source : Typed) (f : Function) (k
     pub at : At t u p c
     pub rep : Stands_for t u m source f k ready s c
     pub count : length vs ≡ length h.params
+    pub room : length vs ≤ outgoing t u m source f k ready
     pub words : (i v : ℕ) → slice_get vs i ≡ Some v → word_at c.view.bytes (argument_at i) (t.word / 8) ≡ Some v
     pub typed : (i v : ℕ) (o : Object) → slice_get h.params i ≡ Some o → slice_get vs i ≡ Some v → (as_type t.word o.element v ≡ v) × (v < 2 ^ t.word)
 

@@ -112,6 +112,12 @@ module _ (t : Target) (u : Image) (m : Fixed) (source : Typed) (f : Function) (k
       args_count (x ∷ xs) (o ∷ os) first [] d fit h = absurd h
       args_count (x ∷ xs) (o ∷ os) first (v ∷ vs) d fit h = ap suc (args_count xs os (first + (nv x).value.temps) vs d fit.1 h.1)
 
+      args_held : (xs : List X) (first : ℕ) (vs : List ℕ) (d : Point) → Hold t u m source f k ready X ev nv xs first vs d → length vs ≡ length xs
+      args_held [] first [] d h = refl
+      args_held [] first (v ∷ vs) d h = absurd h
+      args_held (x ∷ xs) first [] d h = absurd h
+      args_held (x ∷ xs) first (v ∷ vs) d h = ap suc (args_held xs (first + (nv x).value.temps) vs d h.1)
+
       pub args_typed : (xs : List X) (os : List Object) (first : ℕ) (vs : List ℕ) (d : Point) → Fit xs os → Hold t u m source f k ready X ev nv xs first vs d → (i v : ℕ) (o : Object) → slice_get os i ≡ Some o → slice_get vs i ≡ Some v
           → (as_type t.word o.element v ≡ v) × (v < 2 ^ t.word)
       args_typed [] [] first vs d fit h i v o is e = absurd (grind (arith, is))
@@ -160,6 +166,7 @@ module _ (t : Target) (u : Image) (m : Fixed) (source : Typed) (f : Function) (k
                 at = at';
                 rep = rep';
                 count = args_count xs h.params first vs d fit b.hold;
+                room = (let held = args_held xs first vs d b.hold in omega (arith, held, room));
                 words = word_stored vs d e h';
                 typed = λ i v o got_o got. args_typed xs h.params first vs d fit b.hold i v o got_o got;
               }))

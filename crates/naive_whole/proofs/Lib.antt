@@ -1,4 +1,3 @@
-pub mod Asked
 pub mod Start
 pub mod Whole
 mod Meeting

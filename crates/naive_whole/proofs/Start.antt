@@ -18,7 +18,7 @@ use Rattle.temp_machine.specs.Machine.{first_byte}
 use Rattle.naive_run.specs.Law.{IsUnitOf, cell_bytes, cell_bytes_by, count_by, element_count}
 use Rattle.naive_rep.proofs.Rep.{Told, cut_to}
 use Rattle.naive_values.proofs.Typed.{as_type_small, as_type_twice}
-use Rattle.naive_whole.proofs.Asked.{Statics_in}
+use Rattle.naive_function.proofs.Statics.{Statics_in}
 
 abbrev length_in : Kind → ℕ
 length_in (array of n) = n

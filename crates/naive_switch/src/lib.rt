@@ -1,0 +1,2 @@
+//! Naive code of `switch`: a list of statements that is entered at a label.
+#![tactic(auto)]

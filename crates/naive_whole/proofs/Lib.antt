@@ -1,3 +1,4 @@
 pub mod Start
+pub mod Joining
 pub mod Whole
 mod Meeting

@@ -39,7 +39,8 @@ use Rattle.naive_code.specs.Functions.{site_of, entry_from, body_steps, ending, 
 use Rattle.naive_run.specs.Standing.{shaped, One, Stands}
 use Rattle.naive_run.specs.Sound.{is_sound}
 use Rattle.naive_run.specs.Law.{IsFixedBy, IsSoundTarget, IsUnitOf, Expands, HoldsStatic}
-use Rattle.naive_whole.specs.Example.{parameter, static, adding, starting, source, target, fixed, image, routine, adding_code, starting_code, calling, PremisesAreMet}
+use Rattle.naive_whole.specs.Example.{parameter, static, adding, starting, source, target, fixed, image, routine, adding_code, starting_code, calling, PremisesAreMet, EndsAsItsSource}
+use Rattle.naive_whole.proofs.Whole.{naive_is_same}
 
 -- a transfer does as itself
 does_itself : (w : ℕ) (ms : List Move) → DoesAs w ms ms
@@ -262,3 +263,9 @@ sound = simp (fold-roll-Stat, fold-roll-TypedExpr) refl
 
 pub premises_are_met : PremisesAreMet
 premises_are_met = record { fixed_by = fixed_by; machine = machine; sound = sound; unit = unit; clean = clean }
+
+-- by the law the code ends as its source does
+pub ends_as_its_source : EndsAsItsSource
+ends_as_its_source =
+    let same = naive_is_same target fixed source image fixed_by machine sound unit [] (All-nil (λ byte. byte < 256)) clean in
+    (runs, same.ends 2 [] 12 runs)

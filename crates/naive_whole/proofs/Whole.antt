@@ -6,7 +6,6 @@ use Rattle.behaviour.specs.Steps.{Stops}
 use Rattle.behaviour.proofs.Reaching.{reach_same}
 use Rattle.behaviour.proofs.Sameness.{same_trans, target_never_fails}
 use Rattle.behaviour.proofs.Stepping.{run_is_run, comes_then_ends}
-use Rattle.md_shapes.specs.Shapes.{Frame as Fixed}
 use Rattle.c_tree.specs.declared.typed.Typed.{Typed}
 use Rattle.c_meaning.specs.Parts.{State, Part, Gives, Cut, Fails, Value as Result}
 use Rattle.c_meaning.specs.Settings.{setting_of}
@@ -18,9 +17,9 @@ use Rattle.temp_machine.specs.Small.{Point, first_point, small_step, small_run}
 use Rattle.temp_machine.proofs.Small.{only_small, blocks_are_small}
 use Rattle.naive_run.specs.Law.{run_of, NaiveIsSame}
 use Rattle.naive_step.proofs.Doing.{M, Does, comes, late, any}
-use Rattle.naive_function.proofs.Running.{Bodies_do}
 use Rattle.naive_function.proofs.Whole.{main_does}
 use Rattle.naive_whole.proofs.Start.{statics_stand}
+use Rattle.naive_whole.proofs.Joining.{bodies_do}
 
 module _ (t : Target) (u : Image) (source : Typed) (input : List ℕ) where
   abbrev first : Point
@@ -39,11 +38,10 @@ module _ (t : Target) (u : Image) (source : Typed) (input : List ℕ) where
   reaches d (Cut out) is never (late _ l) = both_run (suc d) l.0 out (omega arith) l.1 is l.2
   reaches d (Fails out why) is never (any _ _) = absurd (never.at (suc d) out why is)
 
--- where the bodies of functions do what they should
-pub same_by_bodies : ((t : Target) (u : Image) (m : Fixed) (source : Typed) → Bodies_do t u m source) → NaiveIsSame
-same_by_bodies bodies t m source u fixed machine sound unit input bytes never =
+pub naive_is_same : NaiveIsSame
+naive_is_same t m source u fixed machine sound unit input bytes never =
     let statics = statics_stand t u m source machine.target.size unit input in
     let by_transfers = reach_same (run_of t source input) (small_run t u input) (source_is_run (setting_of t.kept t.word t.stack) source input) (run_is_run (M t u) (only_small t u) (first t u source input))
-    (λ d. reaches t u source input d _ refl never (main_does t u m source fixed machine sound unit (bodies t u m source) d (suc d) (omega arith) start input bytes statics)) in
+    (λ d. reaches t u source input d _ refl never (main_does t u m source fixed machine sound unit (bodies_do t u m source) d (suc d) (omega arith) start input bytes statics)) in
     same_trans (run_of t source input) (small_run t u input) (temporary_run t u input) by_transfers
     (blocks_are_small t u input (target_never_fails (run_of t source input) (small_run t u input) by_transfers))

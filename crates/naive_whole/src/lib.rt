@@ -6,3 +6,4 @@
 #![tactic(auto)]
 
 pub mod examples;
+pub mod laws;

@@ -30,7 +30,7 @@ pub record Area : Type 0 where
 abbrev area : ℕ → ℕ → Area
 area a n = record { from = a; count = n }
 
-rounds_up : (w n : ℕ) → IsWordSize w → n ≤ rounded w n
+pub rounds_up : (w n : ℕ) → IsWordSize w → n ≤ rounded w n
 rounds_up w n z = by_size (λ w. n ≤ rounded w n) (omega arith) (omega arith) w z
 
 pub bytes_are : (w : ℕ) → IsWordSize w → w / 8 ≡ word_bytes w

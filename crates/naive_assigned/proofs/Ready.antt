@@ -60,7 +60,7 @@ arrays_fourth [] = refl
 arrays_fourth (o ∷ os) = let here = room_fourth o.element o.length in let rest = arrays_fourth os in omega (arith, here, rest)
 
 -- a number of words behind a word, and arrays behind that
-words_behind : (w a n : ℕ) (os : List Object) → IsWordSize w → a % (w / 8) ≡ 0 → (a + (word_bytes w * n + arrays w os)) % (w / 8) ≡ 0
+pub words_behind : (w a n : ℕ) (os : List Object) → IsWordSize w → a % (w / 8) ≡ 0 → (a + (word_bytes w * n + arrays w os)) % (w / 8) ≡ 0
 words_behind w a n os z =
     by_size (λ w. a % (w / 8) ≡ 0 → (a + (word_bytes w * n + arrays w os)) % (w / 8) ≡ 0)
     (λ h. let e = arrays_even os in omega (arith, h, e)) (λ h. let e = arrays_fourth os in omega (arith, h, e)) w z
@@ -79,15 +79,15 @@ element_aligned w a i type.Void z h = by_size (λ w. a % (w / 8) ≡ 0 → (a + 
 
 -- ---- what may be touched
 
-or_left : (x y : Bool) → x ≡ true → (if x then true else y) ≡ true
+pub or_left : (x y : Bool) → x ≡ true → (if x then true else y) ≡ true
 or_left true y e = refl
 or_left false y e = absurd (grind (arith, e))
 
-or_right : (x y : Bool) → y ≡ true → (if x then true else y) ≡ true
+pub or_right : (x y : Bool) → y ≡ true → (if x then true else y) ≡ true
 or_right true y e = refl
 or_right false y e = e
 
-between_true : (low high a : ℕ) → low ≤ a → a < high → is_between low high a ≡ true
+pub between_true : (low high a : ℕ) → low ≤ a → a < high → is_between low high a ≡ true
 between_true low high a h g = grind (arith, nat_tests, h, g)
 
 -- the homes end where the arrays begin

@@ -3,4 +3,4 @@ use Rattle.std.proofs.Common.{refl}
 use Rattle.naive_examples.specs.Worked.{Operations}
 
 pub operations : Operations
-operations = record { leaf = refl; sum = refl; conjunction = refl; set_element = refl; loop = refl }
+operations = record { leaf = refl; sum = refl; conjunction = refl; set_element = refl; loop = refl; unsigned_test = refl; call_of_two = refl; loop_with_step = refl }

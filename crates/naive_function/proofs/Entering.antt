@@ -1,5 +1,5 @@
 -- A function is entered: where its frame stands, and what the first point of its run shows.
-use Rattle.std.proofs.Common.{◌≡◌, ℕ, zero, suc, ◌+◌, ◌*◌, ◌-◌, ◌%◌, ◌/◌, ◌^◌, ◌≤◌, ◌<◌, ◌⊎◌, inl, inr, List, [], ◌∷◌, Option, Some, None, refl, ap, ◌∙◌, subst, arith, true, false}
+use Rattle.std.proofs.Common.{◌≡◌, ℕ, zero, suc, ◌+◌, ◌-◌, ◌%◌, ◌/◌, ◌^◌, ◌≤◌, ◌<◌, ◌⊎◌, inl, inr, List, [], ◌∷◌, Option, Some, None, refl, ap, ◌∙◌, subst, arith, true, false}
 use Rattle.std.specs.Prelude.{Bool, if◌then◌else◌, ◌==◌, ◌||◌, not, nat_le, slice_get, slice_index, length, unwrap_or, All}
 use Rattle.std.proofs.lemmas.List.Elements.{All-head, All-tail}
 use Rattle.std.proofs.lemmas.Nat.{pow_pos}
@@ -9,11 +9,10 @@ use Rattle.std.proofs.lemmas.Bool.Decides.{nat_tests}
 use Rattle.rtl_word.specs.Words.{IsWordSize}
 use Rattle.rtl_word.proofs.Below.{by_size}
 use Rattle.md_shapes.specs.Shapes.{Frame as Fixed}
-use Rattle.c_tree.specs.declared.types.CType.{CType}
 use Rattle.c_tree.specs.declared.typed.Object.{Object}
 use Rattle.c_tree.specs.declared.typed.Function.{Function}
 use Rattle.c_tree.specs.declared.typed.Typed.{Typed}
-use Rattle.c_limits.specs.Frames.{word_bytes, array_in, arrays, frame_bytes, frame_words, call_bytes, is_helper}
+use Rattle.c_limits.specs.Frames.{word_bytes, frame_bytes, frame_words, call_bytes, is_helper}
 use Rattle.c_meaning.specs.Run.{is_main}
 use Rattle.temp_machine.specs.Routines.{Image, Target, pushed, pushed_by}
 use Rattle.temp_machine.specs.Machine.{State, Waiting, may_touch, taken_by_callers, unset_between, is_between, entry, entered}
@@ -23,7 +22,8 @@ use Rattle.naive_run.specs.Sound.{left_of, is_scalar, is_scalar_by, is_sound, is
 use Rattle.naive_step.proofs.Words.{HoldsWords, words_in}
 use Rattle.naive_step.proofs.Making.{Call, Inside}
 use Rattle.naive_assigned.proofs.Areas.{bytes_are}
-use Rattle.naive_assigned.proofs.Ready.{Ready}
+use Rattle.naive_assigned.proofs.Ready.{Ready, words_behind}
+use Rattle.naive_lists.proofs.Lists.{le_of}
 use Rattle.naive_nodes.proofs.Nodes.{both_so}
 
 -- ---- what a sound function is
@@ -35,9 +35,6 @@ not_so false e = refl
 either_so : (a b : Bool) → (not a || b) ≡ true → a ≡ true → b ≡ true
 either_so true b e h = e
 either_so false b e h = absurd (grind (arith, h))
-
-le_of : (a b : ℕ) → nat_le a b ≡ true → a ≤ b
-le_of a b e = grind (arith, nat_tests, e)
 
 le_so : (a b : ℕ) → a ≤ b → nat_le a b ≡ true
 le_so a b h = grind (arith, nat_tests, h)
@@ -84,28 +81,10 @@ sound_function kept w source g f sound is = sound_parts kept w source f (all_at 
 
 -- ---- words
 
-room_even : (of : CType) (l : Option ℕ) → array_in 16 of l % 2 ≡ 0
-room_even of None = refl
-room_even of (Some n) = omega arith
-
-room_fourth : (of : CType) (l : Option ℕ) → array_in 32 of l % 4 ≡ 0
-room_fourth of None = refl
-room_fourth of (Some n) = omega arith
-
-arrays_even : (os : List Object) → arrays 16 os % 2 ≡ 0
-arrays_even [] = refl
-arrays_even (o ∷ os) = let here = room_even o.element o.length in let rest = arrays_even os in omega (arith, here, rest)
-
-arrays_fourth : (os : List Object) → arrays 32 os % 4 ≡ 0
-arrays_fourth [] = refl
-arrays_fourth (o ∷ os) = let here = room_fourth o.element o.length in let rest = arrays_fourth os in omega (arith, here, rest)
-
-words_of : (w n : ℕ) (os : List Object) → IsWordSize w → (word_bytes w * n + arrays w os) % (w / 8) ≡ 0
-words_of w n os z =
-    by_size (λ w. (word_bytes w * n + arrays w os) % (w / 8) ≡ 0) (let e = arrays_even os in omega (arith, e)) (let e = arrays_fourth os in omega (arith, e)) w z
-
 frame_aligned : (kept : List ℕ) (w : ℕ) (f : Function) → IsWordSize w → frame_bytes kept w f % (w / 8) ≡ 0
-frame_aligned kept w f z = words_of w (frame_words kept f) f.locals z
+frame_aligned kept w f z =
+    ap (λ n. n % (w / 8)) (let e : frame_bytes kept w f ≡ 0 + frame_bytes kept w f = omega arith in e)
+    ∙ words_behind w 0 (frame_words kept f) f.locals z (by_size (λ w. 0 % (w / 8) ≡ 0) refl refl w z)
 
 pushed_aligned : (l : Option ℕ) (w : ℕ) → IsWordSize w → pushed_by l (w / 8) % (w / 8) ≡ 0
 pushed_aligned (Some z) w s = by_size (λ w. 0 % (w / 8) ≡ 0) refl refl w s

@@ -1,8 +1,7 @@
 -- The parameters of a function that is entered are loaded into their temporaries.
 use Rattle.std.proofs.Common.{◌≡◌, ℕ, zero, suc, ◌+◌, ◌*◌, ◌%◌, ◌/◌, ◌^◌, ◌≤◌, ◌<◌, inl, inr, List, [], ◌∷◌, Option, Some, None, Ok, refl, sym, ap, ◌∙◌, arith, true, false}
-use Rattle.std.specs.Prelude.{Bool, if◌then◌else◌, slice_get, length, get_or}
+use Rattle.std.specs.Prelude.{if◌then◌else◌, slice_get, length, get_or}
 use Rattle.std.proofs.lemmas.Bool.{cases_lt}
-use Rattle.std.proofs.lemmas.Bool.Decides.{nat_tests}
 use Rattle.std.proofs.lemmas.Option.{slice_get_within, slice_get-get_or}
 use Rattle.std.proofs.Math.Nat.{mod-eq_of_lt, mul-le-mul_left, mul-suc}
 use Rattle.behaviour.specs.Run.{AreBytes}
@@ -31,7 +30,7 @@ use Rattle.temp_machine.specs.Live.{Place}
 use Rattle.temp_machine.specs.Small.{Point}
 use Rattle.naive_code.specs.Operations as code
 use Rattle.naive_code.specs.Operations.{with_number}
-use Rattle.naive_code.specs.Storage.{Storage, Temporary, Word, Elements, Missing, storage_of}
+use Rattle.naive_code.specs.Storage.{Temporary, storage_of}
 use Rattle.naive_code.specs.Functions.{entry_from}
 use Rattle.naive_run.specs.Standing.{One}
 use Rattle.naive_step.proofs.Making.{Call, Shows, Inside, At, active, routine_in}
@@ -39,20 +38,10 @@ use Rattle.naive_step.proofs.Memory.{may_be_touched, word_same}
 use Rattle.naive_step.proofs.Acts.{SetsTemp}
 use Rattle.naive_rep.proofs.Rep.{Told, Holds, Rep}
 use Rattle.naive_assigned.proofs.Areas.{bytes_are}
-use Rattle.naive_assigned.proofs.Ready.{Ready, word_behind}
+use Rattle.naive_assigned.proofs.Ready.{Ready, word_behind, or_left, or_right, between_true}
+use Rattle.naive_statements.proofs.Blocks.{holds_unset}
 use Rattle.naive_values.proofs.Getting.{To, Ops, to_here, to_as, to_then, sets}
 use Rattle.naive_function.proofs.Statics.{Statics_in, statics_held}
-
-or_left : (x y : Bool) → x ≡ true → (if x then true else y) ≡ true
-or_left true y e = refl
-or_left false y e = absurd (grind (arith, e))
-
-or_right : (x y : Bool) → y ≡ true → (if x then true else y) ≡ true
-or_right true y e = refl
-or_right false y e = e
-
-between_true : (low high a : ℕ) → low ≤ a → a < high → is_between low high a ≡ true
-between_true low high a h g = grind (arith, nat_tests, h, g)
 
 nothing_there : {A : Type 0} (xs : List A) (i : ℕ) → slice_get xs i ≡ None → length xs ≤ i
 nothing_there [] i e = omega arith
@@ -149,17 +138,6 @@ module _ (t : Target) (u : Image) (m : Fixed) (source : Typed) (f : Function) (k
 
   -- ---- the point at which the body begins
 
-  none_held : (g : Kind) (p : Storage) (i : ℕ) (d : Point) → Holds t u k g p i None d
-  none_held (scalar of) (Temporary n) i d = λ z. tt
-  none_held (scalar of) (Word y) i d = λ z. tt
-  none_held (scalar of) (Elements b by) i d = tt
-  none_held (scalar of) Missing i d = tt
-  none_held (array of n) (Temporary j) i d = tt
-  none_held (array of n) (Word y) i d = tt
-  none_held (array of n) (Elements b by) i d = λ lt. tt
-  none_held (array of n) Missing i d = tt
-  none_held missing p i d = tt
-
   module _ (vs : List ℕ) (statics : Store) (input : List ℕ) (count : length vs ≡ length f.params) (typed : (i v : ℕ) (o : Object) → slice_get f.params i ≡ Some o → slice_get vs i ≡ Some v → as_type t.word o.element v ≡ v) where
     -- what the function has at its begin
     abbrev pub given_state : State
@@ -186,7 +164,7 @@ module _ (t : Target) (u : Image) (m : Fixed) (source : Typed) (f : Function) (k
         all_held : (x : Variable) (i : ℕ) → Holds t u k (kind_in source f x) (storage_of t.kept t.word source f x) i (load given_state x i) d
         all_held (variable.Static x) i = statics_held t u source k d statics held x i
         all_held (variable.Parameter x) i = parameter_held (kind_of (slice_get f.params x)) x i d (set x)
-        all_held (variable.Local x) i = none_held (kind_in source f (variable.Local x)) (storage_of t.kept t.word source f (variable.Local x)) i d
+        all_held (variable.Local x) i = holds_unset t u m source f k ready (kind_in source f (variable.Local x)) (storage_of t.kept t.word source f (variable.Local x)) i d
 
         all_typed : (x : Variable) (i v : ℕ) → load given_state x i ≡ Some v → as_type t.word (type_in (kind_in source f x)) v ≡ v
         all_typed (variable.Static x) i v e = held.typed x i v e

@@ -2,7 +2,6 @@
 use Rattle.std.proofs.Common.{◌≡◌, ℕ, ◌+◌, ◌*◌, ◌/◌, ◌≤◌, ◌<◌, Option, Some, None, refl, sym, ap, ◌∙◌, subst, arith}
 use Rattle.std.specs.Prelude.{slice_get, slice_index, length}
 use Rattle.rtl_word.specs.Words.{IsWordSize}
-use Rattle.rtl_word.proofs.Below.{by_size}
 use Rattle.rtl_effect.specs.Views.{word_at}
 use Rattle.md_shapes.specs.Shapes.{Frame as Fixed}
 use Rattle.c_tree.specs.declared.types.CType.{CType}
@@ -23,14 +22,8 @@ use Rattle.naive_step.proofs.Making.{Call}
 use Rattle.naive_step.proofs.Memory.{word_same}
 use Rattle.naive_rep.proofs.Rooms.{within}
 use Rattle.naive_rep.proofs.Rep.{Told, Holds, Rep, cut_to, told_same}
-use Rattle.naive_assigned.proofs.Areas.{bytes_are}
-
-rounds_up : (w n : ℕ) → IsWordSize w → n ≤ rounded w n
-rounds_up w n z = by_size (λ w. n ≤ rounded w n) (omega arith) (omega arith) w z
-
-abbrev array_length : Kind → ℕ
-array_length (array of n) = n
-array_length g = 0
+use Rattle.naive_assigned.proofs.Areas.{bytes_are, rounds_up}
+use Rattle.naive_lists.proofs.Lists.{array_length}
 
 same_length : (a b : CType) (n k : ℕ) → array a n ≡ array b k → n ≡ k
 same_length a b n k e = ap array_length e

@@ -37,7 +37,7 @@ use Rattle.naive_statements.proofs.For.{PastDo}
 use Rattle.naive_lists.proofs.Elements.{IsLocalArray, All_listed, elements_do}
 use Rattle.naive_lists.proofs.Clearing.{rest_cleared}
 
-abbrev array_length : Kind → ℕ
+abbrev pub array_length : Kind → ℕ
 array_length (array of n) = n
 array_length g = 0
 
@@ -57,7 +57,7 @@ local_room temp offset size of (Some o) e = by_length o.length refl e
       count = ap or_0 l ∙ ap array_length g;
     }
 
-le_of : (a b : ℕ) → nat_le a b ≡ true → a ≤ b
+pub le_of : (a b : ℕ) → nat_le a b ≡ true → a ≤ b
 le_of a b e = grind (arith, nat_tests, e)
 
 module _ (t : Target) (u : Image) (m : Fixed) (source : Typed) (f : Function) (k : Active) (ready : Ready t u m source f k) (n : ℕ) (call : SourceCalls) (calls : CallsDo t u m source f k ready n call) where

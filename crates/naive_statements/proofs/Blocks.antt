@@ -38,7 +38,7 @@ module _ (t : Target) (u : Image) (m : Fixed) (source : Typed) (f : Function) (k
   Code = Ops t u m source f k ready
 
   -- of what is unset nothing is asked
-  holds_unset : (g : Kind) (p : Storage) (j : ℕ) (c : Point) → Holds t u k g p j None c
+  pub holds_unset : (g : Kind) (p : Storage) (j : ℕ) (c : Point) → Holds t u k g p j None c
   holds_unset (scalar of) (Temporary n) j c = λ z. tt
   holds_unset (scalar of) (Word y) j c = λ z. tt
   holds_unset (scalar of) (Elements b by) j c = tt

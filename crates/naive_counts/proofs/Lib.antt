@@ -1,0 +1,5 @@
+mod Longest
+mod Folds
+mod Expressions
+mod Statements
+mod Functions

@@ -1,19 +1,20 @@
 -- Worked nodes and statements, each with its operations.
-use Rattle.std.specs.Prelude.{◌≡◌, ℕ, ◌==◌, if◌then◌else◌, Bool, true, false, List, [], ◌∷◌}
-use Rattle.rtl_word.specs.declared.Rel.TheVariants.{Eq, Ge}
+use Rattle.std.specs.Prelude.{◌≡◌, ℕ, ◌==◌, if◌then◌else◌, false, List, [], ◌∷◌}
+use Rattle.rtl_word.specs.declared.Rel.TheVariants.{Eq, Ge, Geu}
 use Rattle.rtl_tree.specs.declared.expressions.BinOp.TheVariants as op
 use Rattle.c_tree.specs.declared.types.CType.TheVariants as type
 use Rattle.c_tree.specs.declared.syntax.BinaryOperator.{BinaryOperator}
 use Rattle.c_tree.specs.declared.syntax.BinaryOperator.TheVariants.{LogicalAnd, Less, Add, Multiply}
+use Rattle.c_tree.specs.declared.typed.Callee.TheVariants.{Defined}
 use Rattle.c_tree.specs.declared.typed.Head.{Head}
 use Rattle.c_tree.specs.declared.typed.Variable.{Variable}
 use Rattle.c_tree.specs.declared.typed.Variable.TheVariants as variable
 use Rattle.c_tree.specs.declared.typed.TypedExpr.TheOpen as expr
 use Rattle.c_meaning.specs.Sketches.{of_int}
-use Rattle.naive_code.specs.Operations.{Falls, Jumps, Branches, Op, Scale, Close, copy, constant, store, operate, add, read_stack}
+use Rattle.naive_code.specs.Operations.{Falls, Jumps, Branches, Calls, Op, Scale, Close, copy, constant, store, operate, add, read_stack, store_top, store_home, read_result}
 use Rattle.naive_code.specs.Storage.{Frame, Storage, Temporary, Elements}
 use Rattle.naive_code.specs.Expressions.{Naive, Site, naive_node}
-use Rattle.naive_code.specs.Statements.{Steps, dropped, while_steps}
+use Rattle.naive_code.specs.Statements.{Steps, no_steps, dropped, leaving, while_steps, for_steps}
 use Rattle.naive_code.specs.Functions.{nowhere}
 
 -- local 3 is an array of int, 60 bytes above the stack register; the others are scalars
@@ -34,6 +35,9 @@ number v = naive_node site (expr.Constant int v)
 abbrev pub name : ℕ → Naive
 name x = naive_node site (expr.Object int (variable.Local x))
 
+abbrev pub unsigned_name : ℕ → Naive
+unsigned_name x = naive_node site (expr.Object (record { of = type.Unsigned; at = int.at }) (variable.Local x))
+
 abbrev pub element : ℕ → Naive → Naive
 element x i = naive_node site (expr.Element int (variable.Local x) i)
 
@@ -42,6 +46,16 @@ two a o b = naive_node site (expr.Binary int a o b)
 
 abbrev pub assign : Naive → Naive → Naive
 assign a b = naive_node site (expr.Assign int a b)
+
+abbrev pub call : ℕ → List Naive → Naive
+call f es = naive_node site (expr.Call int (Defined f) es)
+
+abbrev pub continuing : Steps
+continuing = leaving site [] (λ a. Jumps a.continues)
+
+-- `for(;e;step)a`
+abbrev pub loop_with : Naive → Naive → Steps → Steps
+loop_with e step a = for_steps site [] no_steps e.test (dropped step.value) a
 
 abbrev pub while : Naive → Naive → Steps
 while e a = while_steps site [] e.test (dropped a.value)
@@ -72,3 +86,10 @@ pub record Operations : Type 0 where
   -- while(a)b=1;
   pub loop : stat_ops (while (name 0) (assign (name 1) (number 1)))
       ≡ Close Falls 11 ∷ copy 4 0 ∷ constant 5 0 ∷ Close (Branches Eq 4 5 10) 12 ∷ constant 6 1 ∷ copy 1 6 ∷ Close (Jumps 11) 10 ∷ []
+  -- a<b of unsigned operands, tested
+  pub unsigned_test : test_ops (two (unsigned_name 0) Less (unsigned_name 1)) ≡ copy 4 0 ∷ copy 5 1 ∷ Close (Branches Geu 4 5 20) 21 ∷ []
+  -- f(a,b): both are evaluated before one is stored
+  pub call_of_two : value_ops (call 0 (name 0 ∷ name 1 ∷ [])) ≡ copy 4 0 ∷ copy 5 1 ∷ store_top 4 ∷ store_home 5 2 ∷ Close (Calls 0) 10 ∷ read_result 6 ∷ []
+  -- for(;a;b=1)continue;
+  pub loop_with_step : stat_ops (loop_with (name 0) (assign (name 1) (number 1)) continuing)
+      ≡ Close Falls 11 ∷ copy 4 0 ∷ constant 5 0 ∷ Close (Branches Eq 4 5 10) 12 ∷ Close (Jumps 13) 14 ∷ Close Falls 13 ∷ constant 6 1 ∷ copy 1 6 ∷ Close (Jumps 11) 10 ∷ []

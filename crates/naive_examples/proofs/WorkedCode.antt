@@ -1,6 +1,0 @@
--- The operations of each worked node are computed.
-use Rattle.std.proofs.Common.{refl}
-use Rattle.naive_examples.specs.Worked.{Operations}
-
-pub operations : Operations
-operations = record { leaf = refl; sum = refl; conjunction = refl; set_element = refl; loop = refl }

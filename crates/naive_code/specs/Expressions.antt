@@ -1,7 +1,7 @@
 -- The code of expressions: what brings a value to a temporary, and what goes by its truth.
-use Rattle.std.specs.Prelude.{ℕ, zero, suc, ◌+◌, ◌*◌, Bool, true, false, not, if◌then◌else◌, List, [], ◌∷◌, ◌++◌, map}
+use Rattle.std.specs.Prelude.{ℕ, zero, suc, ◌+◌, ◌*◌, Bool, true, false, not, List, [], ◌∷◌, ◌++◌, map}
 use Rattle.rtl_word.specs.declared.Rel.{Rel}
-use Rattle.rtl_word.specs.declared.Rel.TheVariants.{Eq, Ne}
+use Rattle.rtl_word.specs.declared.Rel.TheVariants.{Ne}
 use Rattle.rtl_word.specs.Words.{negated as opposite}
 use Rattle.rtl_tree.specs.declared.expressions.BinOp.{BinOp}
 use Rattle.rtl_tree.specs.declared.expressions.BinOp.TheVariants as op
@@ -23,7 +23,7 @@ use Rattle.c_tree.specs.declared.typed.TypedExpr.TheOpen.{TypedExpr-F, Comma, As
 use Rattle.c_tree.specs.declared.typed.TypedExpr.TheFolds.{fold-TypedExpr}
 use Rattle.c_limits.specs.Frames.{word_bytes}
 use Rattle.c_meaning.specs.Operators.{Sort, computes, compares, logical, sort_of, relation_in, computed_in}
-use Rattle.naive_code.specs.Operations.{Stop, Falls, Jumps, Branches, Calls, Op, Meet, Scale, Extend, Close, copy, constant, address, load, store, load_byte, store_byte, operate, add, complement, read_stack, store_home, store_top, take_input, put_output, read_result, set_result}
+use Rattle.naive_code.specs.Operations.{Falls, Jumps, Branches, Calls, Op, Meet, Scale, Extend, Close, copy, constant, address, load, store, load_byte, store_byte, operate, add, complement, read_stack, store_home, store_top, take_input, put_output, read_result, set_result}
 use Rattle.naive_code.specs.Storage.{Base, Symbol, Frame, Storage, Temporary, Word, Elements, Missing}
 
 -- How a value is brought to a temporary. It takes fresh temporaries and fresh labels, and its operations, the temporary of the result and the

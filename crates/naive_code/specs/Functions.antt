@@ -2,7 +2,7 @@
 use Rattle.std.specs.Prelude.{ℕ, zero, suc, ◌+◌, ◌-◌, ◌*◌, Bool, true, false, List, [], ◌∷◌, ◌++◌, length, map}
 use Rattle.c_tree.specs.declared.typed.Function.{Function}
 use Rattle.c_tree.specs.declared.typed.Typed.{Typed}
-use Rattle.c_limits.specs.Frames.{word_bytes, frame_bytes, frame_words, scalars}
+use Rattle.c_limits.specs.Frames.{word_bytes, frame_bytes, frame_words}
 use Rattle.c_limits.specs.Depths.{greatest_in, depth_of}
 use Rattle.c_meaning.specs.Run.{is_main}
 use Rattle.naive_code.specs.Operations.{Op, constant, load_home, set_result}

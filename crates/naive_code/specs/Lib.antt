@@ -3,3 +3,4 @@ pub mod Functions
 pub mod Operations
 pub mod Statements
 pub mod Storage
+pub mod Worked

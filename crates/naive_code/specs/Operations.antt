@@ -1,5 +1,5 @@
 -- What naive code is made of: the transfers of shapes, on temporaries, and the ends of blocks.
-use Rattle.std.specs.Prelude.{ℕ, ◌+◌, ◌*◌, List, [], ◌∷◌}
+use Rattle.std.specs.Prelude.{ℕ}
 use Rattle.rtl_word.specs.declared.Rel.{Rel}
 use Rattle.rtl_tree.specs.declared.cells.Cell.TheVariants.{Temp}
 use Rattle.rtl_tree.specs.declared.cells.Lab.TheVariants as label

@@ -1,7 +1,6 @@
 -- The code of statements.
-use Rattle.std.specs.Prelude.{ℕ, zero, suc, ◌+◌, ◌*◌, Bool, true, false, nat_lt, if◌then◌else◌, List, [], ◌∷◌, ◌++◌, length, map, replicate, slice_get, Option, Some, None}
+use Rattle.std.specs.Prelude.{ℕ, suc, ◌+◌, ◌*◌, true, false, nat_lt, if◌then◌else◌, List, [], ◌∷◌, ◌++◌, length, map, replicate, slice_get, Option, Some, None}
 use Rattle.rtl_word.specs.declared.Rel.TheVariants.{Eq, Ne}
-use Rattle.c_tree.specs.declared.types.CType.{CType}
 use Rattle.c_tree.specs.declared.typed.Variable.TheVariants as variable
 use Rattle.c_tree.specs.declared.typed.Object.{Object}
 use Rattle.c_tree.specs.declared.typed.TypedExpr.{TypedExpr}

@@ -1,5 +1,5 @@
 -- Where the objects of a function are kept.
-use Rattle.std.specs.Prelude.{ℕ, ◌+◌, ◌*◌, Bool, true, false, List, [], ◌∷◌, length, take, slice_get, Option, Some, None}
+use Rattle.std.specs.Prelude.{ℕ, ◌+◌, ◌*◌, List, length, take, slice_get, Option, Some, None}
 use Rattle.c_tree.specs.declared.types.CType.{CType}
 use Rattle.c_tree.specs.declared.typed.Variable.{Variable}
 use Rattle.c_tree.specs.declared.typed.Variable.TheVariants as variable
@@ -7,7 +7,7 @@ use Rattle.c_tree.specs.declared.typed.Object.{Object}
 use Rattle.c_tree.specs.declared.typed.Static.{Static}
 use Rattle.c_tree.specs.declared.typed.Function.{Function}
 use Rattle.c_tree.specs.declared.typed.Typed.{Typed}
-use Rattle.c_limits.specs.Frames.{arrays, scalars, word_bytes, frame_bytes, frame_words}
+use Rattle.c_limits.specs.Frames.{arrays, scalars, word_bytes, frame_words}
 
 -- where an array begins: at the address of an object, or so many bytes from the stack register on
 pub data Base : Type 0 where

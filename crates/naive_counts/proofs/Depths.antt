@@ -1,11 +1,10 @@
 -- How deep the temporaries of an expression stand: each has a depth, below that of the expression.
-use Rattle.std.proofs.Common.{◌≡◌, ℕ, zero, suc, ◌+◌, ◌≤◌, ◌<◌, List, [], ◌∷◌, ◌++◌, map, Option, Some, None, refl, sym, ap, ◌∙◌, subst, arith, true, false}
-use Rattle.std.specs.Prelude.{Bool, not, length, max}
+use Rattle.std.proofs.Common.{◌≡◌, ℕ, ◌+◌, ◌≤◌, ◌<◌, List, [], ◌∷◌, ◌++◌, map, refl, ◌∙◌, subst, arith}
+use Rattle.std.specs.Prelude.{Bool, length, max}
 use Rattle.std.proofs.Math.Nat.{le-max_left, le-max_right}
 use Rattle.std.proofs.lemmas.List.{length-append}
 use Rattle.rtl_word.specs.declared.Rel.{Rel}
 use Rattle.c_tree.specs.declared.types.CType.{CType}
-use Rattle.c_tree.specs.declared.types.CType.TheVariants as type
 use Rattle.c_tree.specs.declared.syntax.UnaryOperator.{UnaryOperator}
 use Rattle.c_tree.specs.declared.syntax.UnaryOperator.TheVariants as unary
 use Rattle.c_tree.specs.declared.syntax.StepOperator.{StepOperator}
@@ -62,7 +61,7 @@ stand_one m x lt = record { below = (lt, tt); many = refl }
 stand_first : (m x count : ℕ) (xs : List ℕ) → x < m → Stand m count xs → Stand m (1 + count) (x ∷ xs)
 stand_first m x count xs lt h = record { below = (lt, h.below); many = let e = h.many in omega (arith, e) }
 
-stand_as : (m a b : ℕ) (xs : List ℕ) → a ≡ b → Stand m a xs → Stand m b xs
+pub stand_as : (m a b : ℕ) (xs : List ℕ) → a ≡ b → Stand m a xs → Stand m b xs
 stand_as m a b xs e h = record { below = h.below; many = h.many ∙ e }
 
 -- ---- expressions
@@ -75,7 +74,7 @@ pub record Deep (n : Naive) (D : ℕ) : Type 0 where
 
 -- a test of a value takes one more
 tested_deep : (v : Value) (D : ℕ) → 2 ≤ D → ((d : ℕ) → Stand (d + D) v.temps (v.depths d)) → (d : ℕ) → Stand (d + D) (naive.test_of v).temps ((naive.test_of v).depths d)
-tested_deep v D least h d = stand_append (d + D) v.temps 1 (v.depths d) (d + 1 ∷ []) (h d) (stand_one (d + D) (d + 1) (omega (arith, least)))
+tested_deep v D least h d = stand_append (d + D) v.temps 1 (v.depths d) ((d + 1) ∷ []) (h d) (stand_one (d + D) (d + 1) (omega (arith, least)))
 
 -- a value of a test stands one deeper
 truth_deep : (x : Test) (n D : ℕ) → n + 1 ≤ D → ((d : ℕ) → Stand (d + n) x.temps (x.depths d)) → (d : ℕ) → Stand (d + D) (naive.value_of x).temps ((naive.value_of x).depths d)
@@ -115,7 +114,7 @@ node_least ds = omega arith
 
 address_deep : (s : Storage) (i : Value) (n D : ℕ) → n ≤ D → 3 ≤ D → ((d : ℕ) → Stand (d + n) i.temps (i.depths d)) → (d : ℕ) → Stand (d + D) (naive.address_in s i).temps ((naive.address_in s i).depths d)
 address_deep (Elements b of) i n D le three h d =
-    stand_append (d + D) i.temps 3 (i.depths d) (d + 1 ∷ d + 2 ∷ d + 2 ∷ []) (stand_more (d + n) (d + D) i.temps (i.depths d) (omega (arith, le)) (h d))
+    stand_append (d + D) i.temps 3 (i.depths d) ((d + 1) ∷ (d + 2) ∷ (d + 2) ∷ []) (stand_more (d + n) (d + D) i.temps (i.depths d) (omega (arith, le)) (h d))
     (record { below = (omega (arith, three), (omega (arith, three), (omega (arith, three), tt))); many = refl })
 address_deep (Temporary k) i n D le three h d = stand_one (d + D) d (omega (arith, three))
 address_deep (Word y) i n D le three h d = stand_one (d + D) d (omega (arith, three))
@@ -123,7 +122,7 @@ address_deep Missing i n D le three h d = stand_one (d + D) d (omega (arith, thr
 
 element_deep : (s : Storage) (i : Value) (n D : ℕ) → n ≤ D → 3 ≤ D → ((d : ℕ) → Stand (d + n) i.temps (i.depths d)) → (d : ℕ) → Stand (d + D) (naive.read_element s i).temps ((naive.read_element s i).depths d)
 element_deep (Elements b of) i n D le three h d =
-    stand_append (d + D) (i.temps + 3) 1 ((naive.address_in (Elements b of) i).depths d) (d + 1 ∷ []) (address_deep (Elements b of) i n D le three h d) (stand_one (d + D) (d + 1) (omega (arith, three)))
+    stand_append (d + D) (i.temps + 3) 1 ((naive.address_in (Elements b of) i).depths d) ((d + 1) ∷ []) (address_deep (Elements b of) i n D le three h d) (stand_one (d + D) (d + 1) (omega (arith, three)))
 element_deep (Temporary k) i n D le three h d = stand_one (d + D) d (omega (arith, three))
 element_deep (Word y) i n D le three h d = stand_one (d + D) d (omega (arith, three))
 element_deep Missing i n D le three h d = stand_one (d + D) d (omega (arith, three))
@@ -183,9 +182,9 @@ module _ (a b : Naive) (x y : ℕ) (p : Deep a x) (q : Deep b y) where
       deep d =
           let e = first_of x (y ∷ []) in let g = second_of x y [] in let least = p.least in let one = beside_one a.place in
           let o = naive.opened a.place in let k = d + naive.beside a.place in
-          stand_as (d + D) (o.temps + (b.value.temps + 1)) (o.temps + b.value.temps + 1) (o.depths d ++ (b.value.depths k ++ k + 1 ∷ [])) (omega arith)
-          (stand_append (d + D) o.temps (b.value.temps + 1) (o.depths d) (b.value.depths k ++ k + 1 ∷ []) (stand_more (d + x) (d + D) o.temps (o.depths d) (omega (arith, e)) (p.opened d))
-          (stand_append (d + D) b.value.temps 1 (b.value.depths k) (k + 1 ∷ []) (stand_more (k + y) (d + D) b.value.temps (b.value.depths k) (omega (arith, g, one)) (q.value k))
+          stand_as (d + D) (o.temps + (b.value.temps + 1)) (o.temps + b.value.temps + 1) (o.depths d ++ (b.value.depths k ++ (k + 1) ∷ [])) (omega arith)
+          (stand_append (d + D) o.temps (b.value.temps + 1) (o.depths d) (b.value.depths k ++ (k + 1) ∷ []) (stand_more (d + x) (d + D) o.temps (o.depths d) (omega (arith, e)) (p.opened d))
+          (stand_append (d + D) b.value.temps 1 (b.value.depths k) ((k + 1) ∷ []) (stand_more (k + y) (d + D) b.value.temps (b.value.depths k) (omega (arith, g, one)) (q.value k))
           (stand_one (d + D) (k + 1) (omega (arith, e, least, one)))))
 
   compound_deep : (of : CType) (bytes : ℕ) (o : Operation) → Deep (naive.plain of (naive.compound bytes o a.of a.place b.of b.value)) D
@@ -196,12 +195,12 @@ module _ (a b : Naive) (x y : ℕ) (p : Deep a x) (q : Deep b y) where
           let e = first_of x (y ∷ []) in let g = second_of x y [] in let least = p.least in let one = beside_one a.place in
           let at = naive.opened a.place in let k = d + naive.beside a.place in
           let low : k < d + D = omega (arith, e, least, one) in let high : k + 1 < d + D = omega (arith, e, least, one) in
-          let last : Stand (d + D) 2 (k + 1 ∷ k + 1 ∷ []) = record { below = (high, (high, tt)); many = refl } in
-          let behind = stand_append (d + D) b.value.temps 2 (b.value.depths (k + 1)) (k + 1 ∷ k + 1 ∷ []) (stand_more (k + 1 + y) (d + D) b.value.temps (b.value.depths (k + 1)) (omega (arith, g, one)) (q.value (k + 1))) last in
-          stand_as (d + D) (at.temps + (1 + (1 + (b.value.temps + 2)))) (at.temps + 2 + b.value.temps + 2) (at.depths d ++ (k ∷ k + 1 ∷ (b.value.depths (k + 1) ++ k + 1 ∷ k + 1 ∷ []))) (omega arith)
-          (stand_append (d + D) at.temps (1 + (1 + (b.value.temps + 2))) (at.depths d) (k ∷ k + 1 ∷ (b.value.depths (k + 1) ++ k + 1 ∷ k + 1 ∷ [])) (stand_more (d + x) (d + D) at.temps (at.depths d) (omega (arith, e)) (p.opened d))
-          (stand_first (d + D) k (1 + (b.value.temps + 2)) (k + 1 ∷ (b.value.depths (k + 1) ++ k + 1 ∷ k + 1 ∷ [])) low
-          (stand_first (d + D) (k + 1) (b.value.temps + 2) (b.value.depths (k + 1) ++ k + 1 ∷ k + 1 ∷ []) high behind)))
+          let last : Stand (d + D) 2 ((k + 1) ∷ (k + 1) ∷ []) = record { below = (high, (high, tt)); many = refl } in
+          let behind = stand_append (d + D) b.value.temps 2 (b.value.depths (k + 1)) ((k + 1) ∷ (k + 1) ∷ []) (stand_more (k + 1 + y) (d + D) b.value.temps (b.value.depths (k + 1)) (omega (arith, g, one)) (q.value (k + 1))) last in
+          stand_as (d + D) (at.temps + (1 + (1 + (b.value.temps + 2)))) (at.temps + 2 + b.value.temps + 2) (at.depths d ++ (k ∷ (k + 1) ∷ (b.value.depths (k + 1) ++ (k + 1) ∷ (k + 1) ∷ []))) (omega arith)
+          (stand_append (d + D) at.temps (1 + (1 + (b.value.temps + 2))) (at.depths d) (k ∷ (k + 1) ∷ (b.value.depths (k + 1) ++ (k + 1) ∷ (k + 1) ∷ [])) (stand_more (d + x) (d + D) at.temps (at.depths d) (omega (arith, e)) (p.opened d))
+          (stand_first (d + D) k (1 + (b.value.temps + 2)) ((k + 1) ∷ (b.value.depths (k + 1) ++ (k + 1) ∷ (k + 1) ∷ [])) low
+          (stand_first (d + D) (k + 1) (b.value.temps + 2) (b.value.depths (k + 1) ++ (k + 1) ∷ (k + 1) ∷ []) high behind)))
 
 -- ---- nodes with one operand
 
@@ -217,7 +216,7 @@ module _ (a : Naive) (x : ℕ) (p : Deep a x) where
           let e = first_of x [] in let least = p.least in let one = beside_one a.place in
           let at = naive.opened a.place in let k = d + naive.beside a.place in
           let low : k < d + E = omega (arith, e, least, one) in let high : k + 1 < d + E = omega (arith, e, least, one) in
-          stand_append (d + E) at.temps 5 (at.depths d) (k ∷ k + 1 ∷ k + 1 ∷ k + 1 ∷ k + 1 ∷ []) (stand_more (d + x) (d + E) at.temps (at.depths d) (omega (arith, e)) (p.opened d))
+          stand_append (d + E) at.temps 5 (at.depths d) (k ∷ (k + 1) ∷ (k + 1) ∷ (k + 1) ∷ (k + 1) ∷ []) (stand_more (d + x) (d + E) at.temps (at.depths d) (omega (arith, e)) (p.opened d))
           (record { below = (low, (high, (high, (high, (high, tt))))); many = refl })
 
   after_deep : (of : CType) (o : StepOperator) → Deep (naive.plain of (naive.stepped_after o a.of a.place)) E
@@ -228,7 +227,7 @@ module _ (a : Naive) (x : ℕ) (p : Deep a x) where
           let e = first_of x [] in let least = p.least in let one = beside_one a.place in
           let at = naive.opened a.place in let k = d + naive.beside a.place in
           let low : k < d + E = omega (arith, e, least, one) in let high : k + 1 < d + E = omega (arith, e, least, one) in let top : k + 2 < d + E = omega (arith, e, least, one) in
-          stand_append (d + E) at.temps 6 (at.depths d) (k ∷ k + 1 ∷ k + 1 ∷ k + 2 ∷ k + 2 ∷ k + 2 ∷ []) (stand_more (d + x) (d + E) at.temps (at.depths d) (omega (arith, e)) (p.opened d))
+          stand_append (d + E) at.temps 6 (at.depths d) (k ∷ (k + 1) ∷ (k + 1) ∷ (k + 2) ∷ (k + 2) ∷ (k + 2) ∷ []) (stand_more (d + x) (d + E) at.temps (at.depths d) (omega (arith, e)) (p.opened d))
           (record { below = (low, (high, (high, (top, (top, (top, tt)))))); many = refl })
 
   unary_deep : (of : CType) (o : UnaryOperator) → Deep (naive.logical_value of (naive.one o a) (naive.truth_of_one o a)) E
@@ -261,7 +260,7 @@ module _ (a : Naive) (x : ℕ) (p : Deep a x) where
   convert_deep of =
       let least = p.least in
       plain_deep of (naive.then_on a.value 1 (λ d. (d + 1) ∷ []) (λ v s. naive.narrowed of v s)) (conversion_depth of + x) (omega (arith, least))
-      (λ d. stand_append (d + (conversion_depth of + x)) a.value.temps 1 (a.value.depths d) (d + 1 ∷ []) (stand_more (d + x) (d + (conversion_depth of + x)) a.value.temps (a.value.depths d) (omega arith) (p.value d))
+      (λ d. stand_append (d + (conversion_depth of + x)) a.value.temps 1 (a.value.depths d) ((d + 1) ∷ []) (stand_more (d + x) (d + (conversion_depth of + x)) a.value.temps (a.value.depths d) (omega arith) (p.value d))
       (stand_one (d + (conversion_depth of + x)) (d + 1) (omega (arith, least))))
 
 conditional_deep : (of : CType) (a b c : Naive) (x y z : ℕ) → Deep a x → Deep b y → Deep c z → Deep (naive.plain of (naive.chosen a.test b.value c.value)) (node_depth (x ∷ y ∷ z ∷ []))
@@ -306,7 +305,7 @@ module _ (c : Site) where
   call_deep bytes callee.Putchar (x ∷ es) d =
       let e = first_of x.1 (map (λ e. e.1) es) in let least = x.2.least in
       let m = d + node_depth (x.1 ∷ map (λ e. e.1) es) in
-      stand_append m x.0.value.temps 1 (x.0.value.depths d) (d + 1 ∷ []) (stand_more (d + x.1) m x.0.value.temps (x.0.value.depths d) (omega (arith, e)) (x.2.value d)) (stand_one m (d + 1) (omega (arith, e, least)))
+      stand_append m x.0.value.temps 1 (x.0.value.depths d) ((d + 1) ∷ []) (stand_more (d + x.1) m x.0.value.temps (x.0.value.depths d) (omega (arith, e)) (x.2.value d)) (stand_one m (d + 1) (omega (arith, e, least)))
 
   node_deep : (y : TypedExpr-F T) → Deep (naive.naive_node c (map-TypedExpr T Naive (λ e. e.0) y)) (expression_depth (map-TypedExpr T ℕ (λ e. e.1) y))
   node_deep (Constant h v) = plain_deep h.of _ 2 (omega arith) (λ d. leaf_deep 2 d (omega arith))

@@ -3,3 +3,6 @@ mod Folds
 mod Expressions
 mod Statements
 mod Functions
+mod Depths
+mod Deepest
+mod Homes

@@ -1,6 +1,7 @@
-//! Laws of how many transfers naive code takes.
+//! Laws of how many transfers and homes naive code takes.
 
 ghost use Rattle.naive_counts.specs.Counts.{IsWithinWeight, WaysAreCounted};
+ghost use Rattle.naive_counts.specs.Homes.{HomesAreSlots};
 
 /// Each operation is counted by the longest of its ways.
 pub fn ways_are_counted()
@@ -10,4 +11,9 @@ pub fn ways_are_counted()
 /// A function's naive code has no more transfers than the function weighs, without the 16 that are for the passes.
 pub fn code_is_within_weight()
     ensures { IsWithinWeight }
+{}
+
+/// Each temporary of naive code has a home, which is one of the function's slots.
+pub fn homes_are_slots()
+    ensures { HomesAreSlots }
 {}

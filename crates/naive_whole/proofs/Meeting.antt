@@ -58,13 +58,17 @@ module _ (r : Routine) where
   makes pattern o p x is at h = (
     shaped pattern o ∷ [],
     (0, omega arith, refl),
-    (record { block = p.block; at = suc p.at }, record {
-      transfer = shape_moves fixed pattern o;
-      at = at;
-      numbers = subst (All (IsMoveFitting 16)) (sym is) (fits_one x h);
-      does = does_itself 16 (shape_moves fixed pattern o);
-      behind = refl;
-    }, refl),
+    (
+      record { block = p.block; at = suc p.at },
+      record {
+        transfer = shape_moves fixed pattern o;
+        at = at;
+        numbers = subst (All (IsMoveFitting 16)) (sym is) (fits_one x h);
+        does = does_itself 16 (shape_moves fixed pattern o);
+        behind = refl;
+      },
+      refl,
+    ),
   )
 
   -- where a block returns
@@ -122,13 +126,34 @@ adding_is = ops_are adding 10 58 (returning sum_code) adding_frame adding_body
 
 adding_stands : Stands 16 fixed adding_routine adding_ops (place 0 0) (place 1 0)
 adding_stands = (
-  place 0 1, makes adding_routine _ _ (place 0 0) _ refl refl (tt, (tt, omega arith)), (
-  place 0 2, makes adding_routine _ _ (place 0 1) _ refl refl (tt, tt), (
-  place 0 3, makes adding_routine _ _ (place 0 2) _ refl refl (tt, tt), (
-  place 0 4, makes adding_routine _ _ (place 0 3) _ refl refl (tt, tt), (
-  place 0 5, makes adding_routine _ _ (place 0 4) _ refl refl (tt, (tt, tt)), (
-  place 0 6, makes adding_routine _ _ (place 0 5) _ refl refl (tt, tt), (
-  place 1 0, returns_to adding_routine 11 (place 0 6) refl refl, refl)))))))
+  place 0 1,
+  makes adding_routine _ _ (place 0 0) _ refl refl (tt, (tt, omega arith)),
+  (
+    place 0 2,
+    makes adding_routine _ _ (place 0 1) _ refl refl (tt, tt),
+    (
+      place 0 3,
+      makes adding_routine _ _ (place 0 2) _ refl refl (tt, tt),
+      (
+        place 0 4,
+        makes adding_routine _ _ (place 0 3) _ refl refl (tt, tt),
+        (
+          place 0 5,
+          makes adding_routine _ _ (place 0 4) _ refl refl (tt, (tt, tt)),
+          (
+            place 0 6,
+            makes adding_routine _ _ (place 0 5) _ refl refl (tt, tt),
+            (
+              place 1 0,
+              returns_to adding_routine 11 (place 0 6) refl refl,
+              refl,
+            ),
+          ),
+        ),
+      ),
+    ),
+  ),
+)
 
 adding_expands : Expands target fixed source adding 10 adding_routine
 adding_expands = record {
@@ -170,14 +195,38 @@ starting_is = ops_are starting 20 54 (returning call_code) starting_frame starti
 
 starting_stands : Stands 16 fixed starting_routine starting_ops (place 0 0) (place 2 2)
 starting_stands = (
-  place 0 1, makes starting_routine _ _ (place 0 0) _ refl refl (tt, omega arith), (
-  place 0 2, makes starting_routine _ _ (place 0 1) _ refl refl (tt, tt), (
-  place 1 0, (place 0 2, ((calling, refl, refl), refl), refl, refl), (
-  place 1 1, makes starting_routine _ _ (place 1 0) _ refl refl (tt, tt), (
-  place 1 2, makes starting_routine _ _ (place 1 1) _ refl refl (tt, tt), (
-  place 2 0, returns_to starting_routine 22 (place 1 2) refl refl, (
-  place 2 1, makes starting_routine _ _ (place 2 0) _ refl refl (tt, omega arith), (
-  place 2 2, makes starting_routine _ _ (place 2 1) _ refl refl (tt, tt), refl))))))))
+  place 0 1,
+  makes starting_routine _ _ (place 0 0) _ refl refl (tt, omega arith),
+  (
+    place 0 2,
+    makes starting_routine _ _ (place 0 1) _ refl refl (tt, tt),
+    (
+      place 1 0,
+      (place 0 2, ((calling, refl, refl), refl), refl, refl),
+      (
+        place 1 1,
+        makes starting_routine _ _ (place 1 0) _ refl refl (tt, tt),
+        (
+          place 1 2,
+          makes starting_routine _ _ (place 1 1) _ refl refl (tt, tt),
+          (
+            place 2 0,
+            returns_to starting_routine 22 (place 1 2) refl refl,
+            (
+              place 2 1,
+              makes starting_routine _ _ (place 2 0) _ refl refl (tt, omega arith),
+              (
+                place 2 2,
+                makes starting_routine _ _ (place 2 1) _ refl refl (tt, tt),
+                refl,
+              ),
+            ),
+          ),
+        ),
+      ),
+    ),
+  ),
+)
 
 starting_expands : Expands target fixed source starting 20 starting_routine
 starting_expands = record {

@@ -1,5 +1,5 @@
 -- Worked nodes and statements, each with its operations.
-use Rattle.std.specs.Prelude.{◌≡◌, ℕ, ◌==◌, if◌then◌else◌, Bool, true, false, List, [], ◌∷◌}
+use Rattle.std.specs.Prelude.{◌≡◌, ℕ, ◌==◌, if◌then◌else◌, false, List, [], ◌∷◌}
 use Rattle.rtl_word.specs.declared.Rel.TheVariants.{Eq, Ge, Geu}
 use Rattle.rtl_tree.specs.declared.expressions.BinOp.TheVariants as op
 use Rattle.c_tree.specs.declared.types.CType.TheVariants as type

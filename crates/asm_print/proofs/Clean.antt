@@ -1,19 +1,18 @@
 -- The lines of what is written are those that were written.
-use Rattle.std.proofs.Common.{◌≡◌, ℕ, zero, suc, ◌+◌, ◌^◌, ◌<◌, ◌≤◌, ◌==◌, ◌&&◌, ℤ, pos, negsuc, Bool, true, false, cond, List, [], ◌∷◌, ◌++◌, length, map, refl, sym, ap, subst, ◌∙◌, arith, append_assoc}
+use Rattle.std.proofs.Common.{◌≡◌, ℕ, suc, ◌^◌, ◌<◌, ◌==◌, ◌&&◌, pos, negsuc, Bool, true, false, cond, List, [], ◌∷◌, ◌++◌, map, refl, ap, subst, ◌∙◌, arith}
 use Rattle.std.specs.Prelude.{decimal}
-use Rattle.std.specs.Fmt.{signed_decimal}
 use Rattle.std.specs.Char.{is_ascii_digit}
 use Rattle.std.specs.List.{All, AllPass}
 use Rattle.std.specs.Str.{all_ascii_digits}
 use Rattle.std.proofs.lemmas.Bool.{and_parts, eqb-true}
 use Rattle.std.proofs.lemmas.Fmt.{digits_decimal}
 use Rattle.std.proofs.lemmas.List.Elements.{All-head, All-tail, All-cons, All-nil}
-use Rattle.asm_token.specs.Tokens.{Token, Name, Number, Mark, IsToken, spelling, is_name_start, is_name_byte, is_mark}
+use Rattle.asm_token.specs.Tokens.{Token, Name, Number, Mark, IsToken, spelling, is_name_byte, is_mark}
 use Rattle.asm_token.specs.Line.{is_word, space_between, after_token, line_of}
 use Rattle.asm_token.proofs.Bytes.{start_is_name}
 use Rattle.asm_token.proofs.Lengths.{own}
 use Rattle.asm_program.specs.TextLines.{Said, lines_of, onto}
-use Rattle.asm_print.specs.Written.{written, line_text, text_of}
+use Rattle.asm_print.specs.Written.{written, text_of}
 
 -- no line feed stands among the bytes
 abbrev pub HasNoFeed : List ℕ → Type 0

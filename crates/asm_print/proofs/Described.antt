@@ -1,5 +1,5 @@
 -- The rows of an accepted description have literal tokens of their own.
-use Rattle.std.proofs.Common.{ℕ, ◌<◌, List, length, All, sym, subst}
+use Rattle.std.proofs.Common.{ℕ, ◌<◌, length, All, sym, subst}
 use Rattle.md_rows.specs.declared.description.RawDescription.{RawDescription}
 use Rattle.md_check.specs.Accepted.{normalised, normalised_row}
 use Rattle.md_check.specs.Checking.{IsChecked}

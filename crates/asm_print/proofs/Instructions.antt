@@ -1,6 +1,6 @@
 -- The tokens of an instruction's line.
-use Rattle.std.proofs.Common.{◌≡◌, ◌≢◌, ◌⊎◌, inl, inr, ℕ, zero, suc, ◌+◌, ◌-◌, ◌^◌, ◌<◌, ◌≤◌, ◌==◌, ◌&&◌, ◌||◌, max, ℤ, pos, negsuc, Bool, true, false, cond, IsTrue, List, [], ◌∷◌, ◌++◌, length, map, drop, filter_map, Option, Some, None, option_map, slice_get, All, AllPairs, Contains, refl, sym, ap, subst, ◌∙◌, arith, length-append}
-use Rattle.std.specs.Prelude.{decimal, nat_lt, unsigned_abs}
+use Rattle.std.proofs.Common.{◌≡◌, ◌≢◌, ◌⊎◌, inl, inr, ℕ, zero, suc, ◌-◌, ◌^◌, ◌<◌, ◌≤◌, ◌==◌, ◌&&◌, ◌||◌, ℤ, pos, negsuc, Bool, true, false, cond, List, [], ◌∷◌, ◌++◌, length, map, drop, filter_map, Option, Some, None, slice_get, All, AllPairs, refl, sym, ap, subst, ◌∙◌, arith, length-append}
+use Rattle.std.specs.Prelude.{nat_lt}
 use Rattle.std.specs.Fmt.{signed_decimal}
 use Rattle.std.specs.List.{cons_option}
 use Rattle.std.proofs.lemmas.Bool.{and_parts}
@@ -8,7 +8,7 @@ use Rattle.std.proofs.lemmas.List.Elements.{All-head, All-tail, All-cons, All-ni
 use Rattle.rtl_word.specs.Words.{IsWordSize}
 use Rattle.asm_token.specs.Tokens.{Token, Name as NameToken, Number as NumberToken, Mark as MarkToken, IsToken, spelling}
 use Rattle.asm_token.specs.Line.{is_word, space_between, after_token, line_of}
-use Rattle.rtl_tree.specs.Names.{IsName, AreNames as AreCNames}
+use Rattle.rtl_tree.specs.Names.{AreNames as AreCNames}
 use Rattle.rtl_tree.specs.declared.cells.Cell.{Cell}
 use Rattle.rtl_tree.specs.declared.cells.Cell.TheVariants.{Hard, Temp, Flag, Pc, Input, Output, Halt, Hole as RegisterHole}
 use Rattle.rtl_tree.specs.Moves.{Goal, ToCell, ToMemory, Move}
@@ -24,22 +24,21 @@ use Rattle.md_rows.specs.declared.instance.Bound.{Bound}
 use Rattle.md_rows.specs.declared.instance.Instance.{Instance}
 use Rattle.md_rows.specs.Fits.{is_in, printed, below_zero, turned, within}
 use Rattle.md_rows.specs.Instances.{register_name, register_by, filled_goal, filled_move, effects_with, assigned_register, piece_token, IsInstance}
-use Rattle.md_rows.specs.Lines.{hole_bytes, piece_bytes, is_word as is_word_piece, space_bytes, bytes_after, line_bytes, longest_line, longest_name}
+use Rattle.md_rows.specs.Lines.{hole_bytes, piece_bytes, is_word as is_word_piece, space_bytes, bytes_after, line_bytes, longest_line}
 use Rattle.md_text.specs.Rules.{is_reserved, is_block_label}
 use Rattle.md_overlap.specs.Premises.{AreNames}
 use Rattle.md_literals.specs.Literals.{IsLiteralPiece, HasLiterals}
 use Rattle.asm_row.specs.Line.{naming_of, IsNamed, HasNumber, IsLineOf, IsWritten}
 use Rattle.asm_row.specs.Readable.{StandInOrder, IsReadable}
-use Rattle.asm_row.specs.Reading.{Value, Register_, Number, Object, Block, Function, Reads, ReadsText, AreValues, value_in, register_of, assigned_by, IsReading}
+use Rattle.asm_row.specs.Reading.{Value, Register_, Number, Object, Block, Function, Reads, ReadsText, AreValues, register_of, assigned_by}
 use Rattle.asm_row.specs.Found.{IsFound}
 use Rattle.asm_row.proofs.HoleValues.{no_item, same_item, IsBoundOf, bound_of}
 use Rattle.asm_row.proofs.Texts.{first_left, rest_left}
-use Rattle.asm_row.proofs.Unique.{RowReads, LineReads, line_reads}
+use Rattle.asm_row.proofs.Unique.{line_reads}
 use Rattle.asm_line.proofs.Printed.{ready, row_written, name_within, number_short, label_short}
 use Rattle.asm_program.specs.Places.{symbol_in, behind_underscore}
 use Rattle.asm_program.specs.Rules.{begins_with}
 use Rattle.asm_print.specs.Layout.{tokens_by, tokens_of}
-use Rattle.asm_print.proofs.Clean.{false_by, clash}
 use Rattle.asm_print.proofs.Speaking.{name_is_token, block_is_token, IsOwn}
 
 -- the tokens of the line of an instance are those that its row gives

@@ -1,5 +1,5 @@
 -- Labels and objects in the order of their places, and the text that is laid out by them.
-use Rattle.std.proofs.Common.{◌≡◌, ℕ, zero, suc, ◌+◌, ◌<◌, ◌≤◌, List, [], ◌∷◌, ◌++◌, length, map, get_or, All, Result, Ok, Err, refl, sym, ap, subst, ◌∙◌, arith, append_assoc}
+use Rattle.std.proofs.Common.{◌≡◌, ℕ, suc, ◌+◌, ◌<◌, ◌≤◌, List, [], ◌∷◌, ◌++◌, length, map, All, Result, Ok, Err, refl, sym, ap, subst, ◌∙◌, arith, append_assoc}
 use Rattle.std.specs.Prelude.{codes, IfOk}
 use Rattle.std.specs.List.Sorted.{IsPermutation, IsNonDecreasingBy}
 use Rattle.std.proofs.lemmas.List.Elements.{All-cons, All-nil}
@@ -7,11 +7,9 @@ use Rattle.std.proofs.lemmas.List.Sorted.{All-permutation}
 use Rattle.rtl_tree.specs.declared.c_names.Names.{Names}
 use Rattle.rtl_value.specs.declared.state.LabelAt.{LabelAt}
 use Rattle.md_rows.specs.declared.description.RawDescription.{RawDescription}
-use Rattle.md_rows.specs.declared.instance.Bound.TheVariants.{Label as LabelBound}
 use Rattle.md_rows.specs.declared.instance.Instance.{Instance}
-use Rattle.asm_row.specs.Line.{IsNamed}
-use Rattle.asm_program.specs.TextLines.{Said, TextBegins, DataBegins}
-use Rattle.asm_program.specs.Programs.{Assembled, HasFunction}
+use Rattle.asm_program.specs.TextLines.{Said, DataBegins}
+use Rattle.asm_program.specs.Programs.{Assembled}
 use Rattle.asm_print.specs.declared.stops.ObjectAt.{ObjectAt}
 use Rattle.asm_print.specs.Written.{text_of}
 use Rattle.asm_print.specs.Layout.{AreBetween, byte_lines, instruction_lines, label_stop, lines_for, numbered, object_stop, woven}

@@ -1,5 +1,5 @@
 -- What is written says what it was written for.
-use Rattle.std.proofs.Common.{◌≡◌, ◌⊎◌, inl, inr, ℕ, zero, suc, ◌+◌, ◌^◌, ◌<◌, ◌≤◌, ◌==◌, ◌||◌, ℤ, pos, negsuc, Bool, true, false, cond, MatchBool, List, [], ◌∷◌, ◌++◌, length, refl, sym, ap, subst, ◌∙◌, arith, length-append, lit≤}
+use Rattle.std.proofs.Common.{◌≡◌, inl, inr, ℕ, ◌^◌, ◌<◌, ◌≤◌, ◌==◌, ℤ, pos, Bool, true, false, cond, MatchBool, List, [], ◌∷◌, ◌++◌, length, refl, sym, ap, subst, ◌∙◌, arith, length-append, lit≤}
 use Rattle.std.specs.Prelude.{decimal, codes}
 use Rattle.std.specs.Fmt.{signed_decimal}
 use Rattle.std.specs.Char.{is_ascii_digit}
@@ -9,9 +9,9 @@ use Rattle.std.proofs.lemmas.Bool.{eqb-true}
 use Rattle.std.proofs.lemmas.Bool.Decides.{nat_tests}
 use Rattle.std.proofs.lemmas.Fmt.{length-decimal-le}
 use Rattle.std.proofs.lemmas.List.{append-nil}
-use Rattle.std.proofs.lemmas.List.Elements.{All-head, All-tail, All-cons, All-nil, All-weaker}
+use Rattle.std.proofs.lemmas.List.Elements.{All-head, All-cons, All-nil, All-weaker}
 use Rattle.std.proofs.lemmas.Slice.Eq.{bytes_eq-Decides}
-use Rattle.asm_token.specs.Tokens.{Token, Name, Number, Mark, IsToken, spelling, is_name_start, is_name_byte, is_mark, is_blank_or_tab, BeginsNoToken, Spells, at_end, after_gap, one_token}
+use Rattle.asm_token.specs.Tokens.{Token, Name, Number, Mark, IsToken, spelling, is_name_byte, is_blank_or_tab, at_end, after_gap, one_token}
 use Rattle.asm_token.specs.Line.{line_of, after_token}
 use Rattle.asm_token.proofs.Bytes.{digit_is_name}
 use Rattle.asm_token.proofs.Lengths.{token_nonempty}
@@ -20,10 +20,10 @@ use Rattle.asm_token.proofs.Steps.{blank_or_tab_is_gap}
 use Rattle.asm_token.proofs.Lines.{longest_where_it_stands, line_reads_back}
 use Rattle.rtl_tree.specs.Names.{IsName, IsNameByte}
 use Rattle.asm_row.specs.Walk.{IsLine}
-use Rattle.asm_program.specs.TextLines.{Label, Block, Symbol, IsLabel, Said, TextBegins, DataBegins, Labelled, Byte, Others, SayTokens, SaysLabel, says_name, says_number, Says, tokens, is_skipped}
+use Rattle.asm_program.specs.TextLines.{Label, Block, Symbol, IsLabel, TextBegins, DataBegins, Labelled, Byte, Others, SayTokens, SaysLabel, says_name, says_number, Says, tokens, is_skipped}
 use Rattle.asm_program.specs.Rules.{begins_with, is_dotted}
 use Rattle.asm_print.specs.Written.{label_text, written}
-use Rattle.asm_print.proofs.Clean.{HasNoFeed, false_by, clash, clean_by, clean_append, decimal_digits, decimal_clean, line_clean}
+use Rattle.asm_print.proofs.Clean.{HasNoFeed, false_by, clash, clean_by, clean_append, decimal_digits, decimal_clean}
 
 -- a line that begins with a token isn't skipped
 

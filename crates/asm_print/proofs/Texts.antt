@@ -1,6 +1,6 @@
 -- The program of a text can be printed.
-use Rattle.std.proofs.Common.{◌≡◌, ◌≢◌, ◌⊎◌, inl, inr, ℕ, zero, suc, ◌+◌, ◌-◌, ◌*◌, ◌/◌, ◌%◌, ◌^◌, ◌<◌, ◌≤◌, ◌==◌, Bool, true, false, not, cond, ◌||◌, MatchBool, ℤ, pos, negsuc, List, [], ◌∷◌, ◌++◌, length, map, replicate, filter_map, get_or, Option, Some, None, slice_get, unwrap_or, All, AllPairs, Contains, refl, sym, ap, subst, ◌∙◌, arith, length-append}
-use Rattle.std.specs.Prelude.{codes, decimal}
+use Rattle.std.proofs.Common.{◌≡◌, ◌≢◌, ◌⊎◌, inl, inr, ℕ, zero, suc, ◌+◌, ◌-◌, ◌*◌, ◌/◌, ◌^◌, ◌<◌, ◌≤◌, ◌==◌, Bool, true, false, cond, ◌||◌, MatchBool, ℤ, pos, negsuc, List, [], ◌∷◌, ◌++◌, length, map, replicate, filter_map, get_or, Some, None, slice_get, unwrap_or, All, AllPairs, Contains, refl, sym, ap, subst, ◌∙◌, arith, length-append}
+use Rattle.std.specs.Prelude.{codes}
 use Rattle.std.specs.List.{AllZip, cons_option, list_any}
 use Rattle.std.specs.Str.{bytes_eq}
 use Rattle.std.proofs.Math.Nat.{mul_comm}
@@ -19,18 +19,18 @@ use Rattle.md_rows.specs.declared.instance.Bound.TheVariants.{Label as LabelBoun
 use Rattle.md_rows.specs.declared.instance.Instance.{Instance}
 use Rattle.asm_row.specs.Line.{HasNumber, IsNamed}
 use Rattle.asm_row.specs.Readable.{IsReadable}
-use Rattle.asm_row.proofs.HoleValues.{same_item, one_place}
+use Rattle.asm_row.proofs.HoleValues.{one_place}
 use Rattle.asm_data.proofs.Reach.{reaches as reach_bytes}
 use Rattle.asm_program.specs.declared.places.Part.{Part}
 use Rattle.asm_program.specs.declared.places.Part.TheVariants.{Outside, InText, InData}
-use Rattle.asm_program.specs.TextLines.{Label, Block, Symbol, IsLabel, Said, Nothing, Unreadable, TextBegins, DataBegins, Labelled, Mislabelled, Word, Byte, Space, Others, SayTokens, SaysLabel, says_name, says_number, Says, too_long, skipped, no_tokens, tokens, lines_of}
-use Rattle.asm_program.specs.Places.{Position, start, after, part_after, count_after, reach_in, reach_after, aligned, magnitude, symbols_on, with_name, with_names}
-use Rattle.asm_program.specs.Rules.{IsWithin, IsSound, Walks, AreSaid, is_in_place, is_between, instruction_limit, name_limit, word_bytes}
-use Rattle.asm_program.specs.Programs.{Assembled, IsLab, HasLabel, HasObject, IsLineIn, IsText, IsAssembled, HasFunction, instruction_of, instructions, text_labels, data_part, low_bytes, residue, padded, bytes_after, bytes_from, object_of, objects_from}
+use Rattle.asm_program.specs.TextLines.{Label, Block, Symbol, IsLabel, Said, Nothing, TextBegins, DataBegins, Labelled, Word, Byte, Space, Others, SayTokens, SaysLabel, Says, too_long, skipped, no_tokens, tokens, lines_of}
+use Rattle.asm_program.specs.Places.{Position, start, after, part_after, count_after, aligned, magnitude, symbols_on, with_name, with_names}
+use Rattle.asm_program.specs.Rules.{IsWithin, Walks, is_in_place, is_between, name_limit, word_bytes}
+use Rattle.asm_program.specs.Programs.{Assembled, IsLineIn, IsText, IsAssembled, HasFunction, instruction_of, instructions, text_labels, data_part, low_bytes, residue, padded, bytes_after, bytes_from, object_of, objects_from}
 use Rattle.asm_program.specs.Law.{HaveNames}
 use Rattle.asm_print.specs.Printable.{IsOf, IsAddress, function_in, labelled, IsProgramFor}
 use Rattle.asm_print.proofs.Weaving.{AreInPlace, Each, each_append, counts, reaches}
-use Rattle.asm_print.proofs.Names.{name_or, some_name, length_map, all_contains, Has, NoneTwice, has_left, has_right, no_more, names_after}
+use Rattle.asm_print.proofs.Names.{some_name, length_map, all_contains, Has, NoneTwice, has_left, has_right, no_more, names_after}
 use Rattle.asm_print.proofs.Walking.{ahead, ahead_count, ahead_reach, ahead_names}
 
 clash : false ≡ true → ⊥

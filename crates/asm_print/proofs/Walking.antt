@@ -1,7 +1,6 @@
 -- Lines that keep the rules.
-use Rattle.std.proofs.Common.{◌≡◌, ◌≢◌, ◌⊎◌, inl, inr, ℕ, zero, suc, ◌+◌, ◌-◌, ◌/◌, ◌<◌, ◌≤◌, ◌==◌, Bool, true, false, not, cond, List, [], ◌∷◌, ◌++◌, length, map, Option, Some, None, refl, sym, ap, subst, ◌∙◌, arith, append_assoc, length-append}
+use Rattle.std.proofs.Common.{◌≡◌, ◌≢◌, ℕ, suc, ◌+◌, ◌<◌, ◌≤◌, Bool, true, false, cond, List, [], ◌∷◌, ◌++◌, length, Option, Some, None, refl, sym, ap, subst, ◌∙◌, arith, append_assoc, length-append}
 use Rattle.std.specs.List.{AllByRecursion, IsDistinct}
-use Rattle.std.specs.Str.{bytes_eq}
 use Rattle.std.proofs.lemmas.Bool.{eqb-true, eq-eqb}
 use Rattle.std.proofs.lemmas.Slice.Eq.{bytes_eq-Decides}
 use Rattle.asm_token.specs.Tokens.{Token}
@@ -9,10 +8,9 @@ use Rattle.md_rows.specs.declared.description.RawDescription.{RawDescription}
 use Rattle.asm_program.specs.declared.places.Part.{Part}
 use Rattle.asm_program.specs.declared.places.Part.TheVariants.{Outside, InText, InData}
 use Rattle.asm_program.specs.declared.places.Place.{Place}
-use Rattle.asm_program.specs.TextLines.{Label, Block, Symbol, Said, Nothing, Unreadable, TextBegins, DataBegins, Labelled, Mislabelled, Word, Byte, Space, Others}
-use Rattle.asm_program.specs.Places.{Position, start, after, part_after, count_after, reach_in, reach_after, aligned, magnitude, same_label, is_label_line, first_from, first_place, with_names, symbols_on}
-use Rattle.asm_program.specs.Rules.{IsGood, IsWithin, IsMade, StandsAt, StandsIn, Walks, word_bytes, instruction_in, is_in_place, is_dotted}
-use Rattle.asm_print.proofs.Clean.{false_by}
+use Rattle.asm_program.specs.TextLines.{Label, Block, Symbol, Said, Unreadable, Labelled, Word, Byte, Space, Others}
+use Rattle.asm_program.specs.Places.{Position, after, part_after, count_after, reach_in, reach_after, same_label, is_label_line, first_from, first_place, symbols_on}
+use Rattle.asm_program.specs.Rules.{IsWithin, IsMade, StandsAt, StandsIn, Walks, word_bytes, instruction_in, is_dotted}
 use Rattle.asm_print.proofs.Weaving.{AreInPlace, Each, counts, reaches, parts, labels_on}
 use Rattle.asm_print.proofs.Names.{names_after, all_more_names}
 

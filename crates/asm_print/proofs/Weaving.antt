@@ -1,11 +1,10 @@
 -- Lines with labels between them: what is read of them.
-use Rattle.std.proofs.Common.{◌≡◌, ◌⊎◌, inl, inr, ℕ, zero, suc, ◌+◌, ◌-◌, ◌≤◌, not, true, false, pos, List, [], ◌∷◌, ◌++◌, length, map, take, drop, filter_map, Option, Some, None, refl, sym, ap, subst, ◌∙◌, arith}
+use Rattle.std.proofs.Common.{◌≡◌, ◌⊎◌, inl, inr, ℕ, zero, suc, ◌+◌, ◌-◌, ◌≤◌, not, true, false, List, [], ◌∷◌, ◌++◌, length, map, take, drop, filter_map, Option, Some, None, refl, sym, ap, subst, ◌∙◌, arith}
 use Rattle.std.specs.List.{cons_option}
 use Rattle.std.proofs.lemmas.List.{length-drop}
-use Rattle.asm_token.specs.Tokens.{Token}
 use Rattle.asm_program.specs.declared.places.Part.{Part}
-use Rattle.asm_program.specs.declared.places.Part.TheVariants.{Outside, InText, InData}
-use Rattle.asm_program.specs.TextLines.{Label, Said, Nothing, Unreadable, TextBegins, DataBegins, Labelled, Mislabelled, Word, Byte, Space, Others}
+use Rattle.asm_program.specs.declared.places.Part.TheVariants.{InText, InData}
+use Rattle.asm_program.specs.TextLines.{Label, Said, Labelled, Byte, Others}
 use Rattle.asm_program.specs.Places.{part_after, count_after, reach_in}
 use Rattle.asm_program.specs.Rules.{is_in_place, is_dotted}
 use Rattle.asm_program.specs.Programs.{instruction_of, text_labels, data_part}

@@ -1,20 +1,17 @@
 -- The lines of a program are a text of it.
-use Rattle.std.proofs.Common.{◌≡◌, ◌≢◌, ◌⊎◌, ◌↔◌, inl, inr, ℕ, zero, suc, ◌+◌, ◌-◌, ◌*◌, ◌/◌, ◌^◌, ◌<◌, ◌≤◌, Bool, true, false, pos, List, [], ◌∷◌, ◌++◌, length, map, filter_map, get_or, Option, Some, None, slice_get, unwrap_or, All, AllPairs, Contains, refl, sym, ap, subst, ◌∙◌, arith, append_assoc, length-append, lit≤}
+use Rattle.std.proofs.Common.{◌≡◌, ◌≢◌, ◌⊎◌, inl, inr, ℕ, zero, suc, ◌+◌, ◌/◌, ◌<◌, ◌≤◌, Bool, true, false, pos, List, [], ◌∷◌, ◌++◌, length, map, filter_map, get_or, Option, Some, None, slice_get, All, AllPairs, Contains, refl, sym, ap, subst, ◌∙◌, arith, append_assoc, length-append}
 use Rattle.std.specs.List.{AllZip, AllByRecursion, IsDistinct, cons_option}
 use Rattle.std.specs.List.Sorted.{IsPermutation}
-use Rattle.std.specs.Str.{bytes_eq}
 use Rattle.std.proofs.lemmas.List.{append-nil}
-use Rattle.std.proofs.lemmas.List.Elements.{All-head, All-tail, All-cons, All-nil, Contains-get_or}
+use Rattle.std.proofs.lemmas.List.Elements.{All-head, All-tail, All-cons, Contains-get_or}
 use Rattle.std.proofs.lemmas.List.Sorted.{IsPermutation-map, IsPermutation-sym, Contains-permutation, All-permutation}
 use Rattle.std.proofs.lemmas.Map.Keys.{IsDistinct-IsPermutation}
-use Rattle.std.proofs.lemmas.Option.{slice_get_within, get_or_from_slice_get, slice_get-get_or}
-use Rattle.rtl_word.specs.Words.{IsWordSize}
+use Rattle.std.proofs.lemmas.Option.{slice_get_within, get_or_from_slice_get}
 use Rattle.asm_token.specs.Tokens.{Token, IsToken}
 use Rattle.asm_token.specs.Line.{line_of}
 use Rattle.rtl_tree.specs.Names.{IsName, AreNames as AreCNames}
 use Rattle.rtl_tree.specs.declared.cells.Lab.{Lab}
 use Rattle.rtl_tree.specs.declared.cells.Lab.TheVariants as lab
-use Rattle.rtl_tree.specs.declared.cells.Cell.{Cell}
 use Rattle.rtl_tree.specs.declared.c_names.Names.{Names}
 use Rattle.rtl_value.specs.declared.state.LabelAt.{LabelAt}
 use Rattle.md_rows.specs.declared.description.RawDescription.{RawDescription}
@@ -24,28 +21,28 @@ use Rattle.md_rows.specs.declared.instance.Instance.{Instance}
 use Rattle.md_literals.specs.Literals.{HasLiterals}
 use Rattle.asm_row.specs.Line.{IsNamed, HasNumber, IsLineOf}
 use Rattle.asm_row.specs.Readable.{IsReadable}
-use Rattle.asm_row.specs.Reading.{Value, Register_, Number, Object, Block as BlockValue, Function, AreValues, value_in}
+use Rattle.asm_row.specs.Reading.{Value, Register_, Number, Object, Block as BlockValue, Function, AreValues}
 use Rattle.asm_row.proofs.HoleValues.{no_item, same_item, one_place, IsBoundOf, bound_of}
 use Rattle.asm_row.proofs.Unique.{line_reads, one_instance}
 use Rattle.asm_program.specs.declared.places.Part.{Part}
 use Rattle.asm_program.specs.declared.places.Part.TheVariants.{Outside, InText, InData}
-use Rattle.asm_program.specs.TextLines.{Label, Block, Symbol, Said, Unreadable, TextBegins, DataBegins, Labelled, Byte, Others, Says, lines_of}
-use Rattle.asm_program.specs.Places.{Position, start, after, same_label, symbols_on, symbol_in}
-use Rattle.asm_program.specs.Rules.{IsMade, IsPlaced, IsWithin, IsSound, StandsIn, Walks, AreSaid, is_dotted, word_bytes, instruction_limit, name_limit}
+use Rattle.asm_program.specs.TextLines.{Label, Block, Symbol, Said, Unreadable, TextBegins, DataBegins, Labelled, Byte, Others, Says}
+use Rattle.asm_program.specs.Places.{Position, start, same_label, symbols_on, symbol_in}
+use Rattle.asm_program.specs.Rules.{IsMade, IsPlaced, IsWithin, IsSound, StandsIn, AreSaid, is_dotted, word_bytes, name_limit}
 use Rattle.asm_program.specs.Programs.{Assembled, IsLab, HasLabel, HasObject, instructions, instruction_of, text_labels, data_part, bytes_from, objects_from, IsLineIn, IsProgramOf, IsText, IsStanding, HasFunction, IsAssembled}
 use Rattle.asm_program.specs.Law.{HaveNames}
 use Rattle.asm_print.specs.declared.stops.ObjectAt.{ObjectAt}
 use Rattle.asm_print.specs.Written.{written, text_of}
-use Rattle.asm_print.specs.Layout.{Stop, numbered, label_of, object_label, label_stop, object_stop, tokens_of, instruction_lines, byte_lines, woven, AreBetween, AreLinesFor, lines_for}
+use Rattle.asm_print.specs.Layout.{Stop, numbered, label_of, object_label, label_stop, object_stop, tokens_of, instruction_lines, byte_lines, woven, AreBetween}
 use Rattle.asm_print.specs.Law.{IsLaidOut}
 use Rattle.asm_print.specs.Printable.{IsOf, IsAddress, function_in, labelled, IsProgramFor}
 use Rattle.asm_print.proofs.Clean.{false_by, AreClean, written_lines, HasNoFeed, line_clean}
 use Rattle.asm_print.proofs.Speaking.{IsGoodLabel, IsOwn, says_label, label_clean, says_text, says_data, says_byte, byte_clean, says_line, not_dotted}
 use Rattle.asm_print.proofs.Instructions.{IsGoodLine, good_line, has_line, SomeNames, NamesValue, HasSymbolsOf}
-use Rattle.asm_print.proofs.Weaving.{Weave, weave_of, AreInstructions, ArePlain, weave_text_labels, weave_instructions, weave_data_part, labels_on, stop_label, weave_labels, HasLine, HasStop, weave_has, parts, parts_append, data_stays, weave_parts, Each, each_append, weave_each, AreInPlace, weave_in_text, counts, weave_counts, reaches, weave_text_reaches}
-use Rattle.asm_print.proofs.DataPart.{BytesOf, bytes_of, bytes_plain, AreAligned, objects_at, data_counts, weave_bytes, weave_objects, weave_reaches, weave_in_data}
+use Rattle.asm_print.proofs.Weaving.{Weave, weave_of, AreInstructions, ArePlain, weave_text_labels, weave_instructions, weave_data_part, labels_on, stop_label, weave_labels, HasStop, weave_has, parts, parts_append, data_stays, weave_parts, Each, each_append, weave_each, AreInPlace, weave_in_text, weave_counts, weave_text_reaches}
+use Rattle.asm_print.proofs.DataPart.{bytes_of, bytes_plain, AreAligned, objects_at, data_counts, weave_bytes, weave_objects, weave_reaches, weave_in_data}
 use Rattle.asm_print.proofs.Ordered.{few_objects, address_at}
-use Rattle.asm_print.proofs.Names.{name_or, some_name, name_is, length_map, all_contains, Has, has_left, has_right, no_more, AreNamesIn, HasKnownSymbols, names_after, names_known}
+use Rattle.asm_print.proofs.Names.{name_or, some_name, name_is, length_map, all_contains, Has, has_left, has_right, no_more, HasKnownSymbols, names_after, names_known}
 use Rattle.asm_print.proofs.Walking.{same_decides, itself, LabelsDiffer, differ_by, ahead, ahead_part, ahead_count, ahead_reach, ahead_names, IsFine, stands_in, walks}
 
 -- names by their places

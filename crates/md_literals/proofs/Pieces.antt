@@ -1,14 +1,13 @@
 -- The tokens of the rows of a text: those that are spelled, in place of modes too.
-use Rattle.std.proofs.Common.{◌≡◌, ℕ, zero, suc, ◌+◌, ◌<◌, ◌==◌, Bool, true, false, cond, ◌||◌, List, [], ◌∷◌, ◌++◌, length, map, flat_map, Option, Some, None, refl, sym, subst, arith, length-append}
+use Rattle.std.proofs.Common.{◌≡◌, ℕ, suc, ◌<◌, Bool, true, false, cond, ◌||◌, List, [], ◌∷◌, ◌++◌, length, map, flat_map, refl, arith, length-append}
 use Rattle.std.specs.List.{cons_option, list_any}
 use Rattle.std.specs.Str.{bytes_eq}
 use Rattle.asm_token.specs.Tokens.{Token, Name as NameToken, Number as NumberToken, Mark as MarkToken, IsToken}
 use Rattle.md_rows.specs.declared.description.Register.{Register}
 use Rattle.md_rows.specs.declared.row.Hole.{Hole as RowHole}
-use Rattle.md_rows.specs.declared.row.Piece.{Piece as RowPiece}
 use Rattle.md_text.specs.Lines.{Line}
 use Rattle.md_text.specs.Pieces.{Kind, Named, Numbers, Symbols, Labels, Slot, Piece, Literal, Hole, SpellsPieces, at_end, after_space, literal, hole, SpellsText, slots, is_colon, has_name}
-use Rattle.md_text.specs.Forms.{OpenTransfer, Form, Version, MachineName, WordBits, MemorySize, DataBegin, StackSize, RegisterLine, FlagLine, ClassLine, ModeLine, RowLine, HasForm}
+use Rattle.md_text.specs.Forms.{Form, Version, MachineName, WordBits, MemorySize, DataBegin, StackSize, RegisterLine, FlagLine, ClassLine, ModeLine, RowLine, HasForm}
 use Rattle.md_text.specs.Declarations.{Declaration, HaveForms, register_of, registers_in, Alternative, alternative_of, alternatives_in, mode_names}
 use Rattle.md_text.specs.Expansion.{Shown, Fixed, Vacant, taken_by, Filling, shown, filling_of, itself, alternatives_of, fillings, choices, replaced, Expanded, expanded, expansions_of, expansions}
 use Rattle.md_text.specs.Rules.{is_reserved_token, is_reserved_piece, has_reserved_name}

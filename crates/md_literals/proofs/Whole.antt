@@ -1,7 +1,6 @@
 -- The rows of what an accepted text says have literal tokens of their own.
-use Rattle.std.proofs.Common.{◌≡◌, ℕ, ◌<◌, List, [], length, All, refl, sym, subst}
+use Rattle.std.proofs.Common.{ℕ, ◌<◌, List, [], length, All, refl, sym, subst}
 use Rattle.asm_token.specs.Tokens.{Name as NameToken, IsToken}
-use Rattle.md_rows.specs.declared.description.RawDescription.{RawDescription}
 use Rattle.md_text.specs.Lines.{kept}
 use Rattle.md_text.specs.Declarations.{Declared, Declares, registers_in}
 use Rattle.md_text.specs.Expansion.{expansions}

@@ -1,13 +1,10 @@
-use Rattle.std.proofs.Common.{◌≡◌, ℕ, ◌+◌, ◌<◌, ◌≤◌, List, All, length, sym, subst, ap, refl, ◌∙◌, arith}
+use Rattle.std.proofs.Common.{ℕ, ◌<◌, List, All, length, sym, subst, ap, refl, arith}
 use Rattle.std.specs.List.Sorted.{IsPermutation}
 use Rattle.rtl_value.specs.declared.state.LabelAt.{LabelAt}
-use Rattle.md_rows.specs.declared.description.RawDescription.{RawDescription}
-use Rattle.md_rows.specs.declared.instance.Bound.TheVariants.{Label as LabelBound}
-use Rattle.asm_row.specs.Line.{IsNamed}
 use Rattle.asm_program.specs.Programs.{Assembled, HasFunction}
 use Rattle.asm_print.specs.declared.stops.ObjectAt.{ObjectAt}
 use Rattle.asm_print.specs.Layout.{numbered}
-use Rattle.asm_print.specs.Printable.{IsAddress, IsProgramFor}
+use Rattle.asm_print.specs.Printable.{IsAddress}
 use Rattle.asm_print.proofs.Ordered.{few_objects, sorted_all, labels_between, data_between, laid}
 use Rattle.asm_print.proofs.printing.laid_out.Goals as goal
 

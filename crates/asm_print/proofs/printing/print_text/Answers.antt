@@ -1,4 +1,4 @@
-use Rattle.std.proofs.Common.{sym, subst}
+use Rattle.std.proofs.Common.{subst}
 use Rattle.md_check.specs.Checking.{IsChecked}
 use Rattle.asm_program.specs.Programs.{Assembled, IsAssembled}
 use Rattle.asm_program.specs.Law.{HaveNames}

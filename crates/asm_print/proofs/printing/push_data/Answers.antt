@@ -1,7 +1,6 @@
-use Rattle.std.proofs.Common.{◌≡◌, ℕ, pos, List, ◌++◌, length, map, get_or, take, drop, ap, ◌∙◌}
-use Rattle.asm_program.specs.TextLines.{Said, Byte}
-use Rattle.asm_print.specs.Layout.{byte_lines, object_stop, woven}
-use Rattle.asm_print.specs.Written.{text_of}
+use Rattle.std.proofs.Common.{ℕ, pos, length, ap, ◌∙◌}
+use Rattle.asm_program.specs.TextLines.{Byte}
+use Rattle.asm_print.specs.Layout.{byte_lines, object_stop}
 use Rattle.asm_print.proofs.Appending.{room_for, next_order, next_text, map_take, map_drop}
 use Rattle.asm_print.proofs.printing.push_data.Goals as goal
 

@@ -1,10 +1,9 @@
-use Rattle.std.proofs.Common.{◌≡◌, ℕ, List, ◌++◌, All, length, map, get_or, take, drop, ap, sym, subst, ◌∙◌}
+use Rattle.std.proofs.Common.{All, length, ap, sym, subst, ◌∙◌}
 use Rattle.md_rows.specs.declared.instance.Instance.{Instance}
 use Rattle.asm_row.specs.Line.{IsNamed}
-use Rattle.asm_program.specs.TextLines.{Said, Others}
-use Rattle.asm_print.specs.Layout.{instruction_lines, label_stop, tokens_of, woven}
+use Rattle.asm_program.specs.TextLines.{Others}
+use Rattle.asm_print.specs.Layout.{instruction_lines, label_stop, tokens_of}
 use Rattle.asm_print.specs.Printable.{IsOf}
-use Rattle.asm_print.specs.Written.{text_of}
 use Rattle.asm_print.proofs.Appending.{room_for, next_order, next_text, map_take, map_drop, all_drop}
 use Rattle.asm_print.proofs.printing.push_text_part.Goals as goal
 

@@ -12,7 +12,13 @@ use std::alloc::Global;
 use vp_io::Reason;
 
 // Whether a text is refused at a line by a rule.
-fn is_told<W: Word>(alloc: Global, m: &Checked<W>, text: &[u8], line: u32, rule: u8) -> bool {
+pub(crate) fn is_told<W: Word>(
+    alloc: Global,
+    m: &Checked<W>,
+    text: &[u8],
+    line: u32,
+    rule: u8,
+) -> bool {
     let Err(AsmFault::Bad(reason)) = read_text::<W>(alloc, m, text) else {
         return false;
     };

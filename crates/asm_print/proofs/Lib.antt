@@ -1,0 +1,12 @@
+pub mod Clean
+pub mod Speaking
+pub mod Instructions
+pub mod Weaving
+pub mod DataPart
+pub mod Names
+pub mod Walking
+pub mod Appending
+pub mod Ordered
+pub mod Whole
+pub mod Texts
+pub mod Described

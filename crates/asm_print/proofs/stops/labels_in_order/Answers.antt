@@ -1,0 +1,7 @@
+use Rattle.std.proofs.Common.{rules}
+use Rattle.std.proofs.lemmas.List.Sorted.{IsNonDecreasingBy-from_sort_by_key}
+use Rattle.rtl_value.specs.declared.state.LabelAt.{LabelAt}
+use Rattle.asm_print.proofs.stops.labels_in_order.Goals as goal
+
+pub returns-clause-order : goal.returns-clause-order
+returns-clause-order c = IsNonDecreasingBy-from_sort_by_key (λ (l : LabelAt). l.at) _ c.in_ok-sort_by_key.ensures.sorted (λ a r q k. search rules)

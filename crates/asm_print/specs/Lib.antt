@@ -1,0 +1,4 @@
+pub mod Written
+pub mod Layout
+pub mod Printable
+pub mod Law

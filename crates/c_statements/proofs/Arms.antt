@@ -17,7 +17,7 @@ use Rattle.c_typing.specs.declared.names.Typing.{Typing}
 use Rattle.c_typing.specs.Faults.{◌also◌}
 use Rattle.c_typing.specs.Expressions.{Within, two, three}
 use Rattle.c_typing.specs.Statements as st
-use Rattle.c_statements.specs.Left.{left}
+use Rattle.c_statement_parts.specs.Left.{left}
 use Rattle.c_statements.proofs.Scopes.{at_most, fits, block_here, switch_here, back, for_extends}
 use Rattle.c_scopes.specs.declared.state.State.{State}
 use Rattle.c_scopes.specs.Here.{here_of}

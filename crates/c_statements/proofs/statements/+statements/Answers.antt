@@ -1,20 +1,22 @@
-use Rattle.std.proofs.Common.{rules, ◌≡◌, ℕ, Option, Some, None, refl, sym, ap, ◌∙◌, subst, List, length, map}
+use Rattle.std.proofs.Common.{rules, ◌≡◌, ◌≤◌, ℕ, Option, Some, None, refl, sym, ap, ◌∙◌, subst, List, length, map}
 use Rattle.std.specs.Prelude.{IfOk, OnOk}
 use Rattle.c_tree.specs.declared.syntax.Statement.{Statement}
 use Rattle.c_tree.specs.declared.syntax.Statement.TheVariants as tree
+use Rattle.c_tree.specs.declared.typed.Start as typed
 use Rattle.c_tree.specs.declared.typed.Stat.{Stat}
 use Rattle.c_tree.specs.declared.typed.TypedExpr.{TypedExpr}
 use Rattle.c_tree.specs.declared.typed.Stat.TheVariants as stat
+use Rattle.c_typing.specs.declared.names.Around.{Around}
 use Rattle.c_typing.specs.declared.names.Fault.{Fault}
 use Rattle.c_typing.specs.Faults.{notes}
-use Rattle.c_typing.specs.Expressions.{two, three}
+use Rattle.c_typing.specs.Expressions.{one, two, three, together}
 use Rattle.c_typing.specs.Statements as spec
 use Rattle.c_typing.proofs.Walks.{list_good}
 use Rattle.c_scopes.specs.Here.{here_of}
 use Rattle.c_objects.specs.Within.{within_of}
 use Rattle.c_scopes.proofs.Steps.{joined_end, drop_end, next_item, tree_step, here_step, told_step}
-use Rattle.c_statements.proofs.Scopes.{fits, left_here}
-use Rattle.c_statements.proofs.Arms.{on_ok, if_walk, else_walk, while_walk, do_walk, case_walk, block_walk, for_fits, for_walk, switch_walk, switch_left}
+use Rattle.c_statements.proofs.Scopes.{at_most, fits, left_here}
+use Rattle.c_statements.proofs.Arms.{on_ok, if_walk, else_walk, while_walk, do_walk, case_walk, block_walk, for_fits, for_walk, for_whole, default_walk, switch_walk, switch_left}
 use Rattle.c_statements.proofs.statements.+statements.Goals as goal
 
 pub sequence-loop-s-preserved : goal.sequence-loop-s-preserved
@@ -92,6 +94,40 @@ do_loop-returns-clause-told g t c =
     ∙ ap (λ (n : Option Fault). notes n (spec.value_at w x.here c.args.e.now).faults) c.in_ok-a.ensures.told
     ∙ ap (λ (y : spec.Walked Stat). notes c.args.told.now.first y.faults) arm) c.behind_do.ensures.told
 
+pub do_loop-returns-clause-here : goal.do_loop-returns-clause-here
+do_loop-returns-clause-here g t c =
+    let w = within_of g.W.Word.BITS c.args.functions.now in
+    let h = here_of c.args.state in
+    let is : tree.DoWhile c.args.at c.args.a.now c.args.e.now ≡ tree.DoWhile c.args.at c.get.result.now c.args.e.now = ap (λ (a : Statement). tree.DoWhile c.args.at a c.args.e.now) (sym c.get.ensures) in
+    let arm = do_walk w c.args.around h (tree.DoWhile c.args.at c.args.a.now c.args.e.now) c.args.at c.get.result.now c.args.e.now c.looped.result is c.looped.ensures in
+    subst (λ (k : spec.Here). IfOk c.behind_do.result (λ r. here_of r.1 ≡ k)) (c.in_ok-a.ensures.here ∙ ap (λ (y : spec.Walked Stat). y.here) arm) c.behind_do.ensures.here
+
+pub for_loop-returns-clause-tree : goal.for_loop-returns-clause-tree
+for_loop-returns-clause-tree g t c =
+    let w = within_of g.W.Word.BITS c.args.functions.now in
+    let h = here_of c.args.state in
+    let is : tree.For c.args.at c.args.start.now c.args.test.now c.args.step.now c.args.a.now ≡ tree.For c.args.at c.args.start.now c.args.test.now c.args.step.now c.get.result.now = ap (tree.For c.args.at c.args.start.now c.args.test.now c.args.step.now) (sym c.get.ensures) in
+    let b = spec.begun w c.in_block-inner.result h c.args.start.now in
+    let x = spec.walk w c.get.result.now c.looped.result in
+    let arm = for_whole w c.args.around h (tree.For c.args.at c.args.start.now c.args.test.now c.args.step.now c.args.a.now) c.args.at c.args.start.now c.args.test.now c.args.step.now c.get.result.now c.in_block-inner.result c.looped.result is
+    c.in_block-inner.ensures c.looped.ensures in
+    subst (λ (y : Option Stat). IfOk c.behind_for.result (λ r. r.0 ≡ y))
+    (ap (λ (k : Option (typed.Start × Option TypedExpr × Option TypedExpr)). two (spec.for_tree c.args.at) k c.in_ok-a.a) c.in_ok-parts.ensures.tree
+    ∙ ap (two (spec.for_tree c.args.at) (together b.tree (spec.tested w b.here c.args.test.now).0 (spec.stepped w b.here c.args.step.now).0)) (c.in_ok-a.ensures.tree ∙ ap (λ (k : spec.Here). (x k).tree) c.in_ok-parts.ensures.here)
+    ∙ ap (λ (y : spec.Walked Stat). y.tree) arm) c.behind_for.ensures.tree
+
+pub for_loop-returns-clause-told : goal.for_loop-returns-clause-told
+for_loop-returns-clause-told g t c =
+    let w = within_of g.W.Word.BITS c.args.functions.now in
+    let h = here_of c.args.state in
+    let is : tree.For c.args.at c.args.start.now c.args.test.now c.args.step.now c.args.a.now ≡ tree.For c.args.at c.args.start.now c.args.test.now c.args.step.now c.get.result.now = ap (tree.For c.args.at c.args.start.now c.args.test.now c.args.step.now) (sym c.get.ensures) in
+    let b = spec.begun w c.in_block-inner.result h c.args.start.now in
+    let x = spec.walk w c.get.result.now c.looped.result in
+    let arm = for_whole w c.args.around h (tree.For c.args.at c.args.start.now c.args.test.now c.args.step.now c.args.a.now) c.args.at c.args.start.now c.args.test.now c.args.step.now c.get.result.now c.in_block-inner.result c.looped.result is
+    c.in_block-inner.ensures c.looped.ensures in
+    on_ok c.behind_for.result (c.in_ok-a.ensures.told ∙ ap (λ (k : spec.Here). notes c.for_parts.new.told.first (x k).faults) c.in_ok-parts.ensures.here
+    ∙ ap (λ (n : Option Fault). notes n (x b.here).faults) c.in_ok-parts.ensures.told ∙ ap (λ (y : spec.Walked Stat). notes c.args.told.now.first y.faults) arm)
+
 pub for_loop-returns-clause-here : goal.for_loop-returns-clause-here
 for_loop-returns-clause-here g t c =
     let w = within_of g.W.Word.BITS c.args.functions.now in
@@ -101,6 +137,12 @@ for_loop-returns-clause-here g t c =
     (for_walk w c.args.around h (tree.For c.args.at c.args.start.now c.args.test.now c.args.step.now c.args.a.now) c.args.at c.args.start.now c.args.test.now c.args.step.now c.get.result.now c.in_block-inner.result c.looped.result (here_of c.in_ok-parts.state) c.in_ok-a.state is
     c.in_block-inner.ensures c.looped.ensures c.in_ok-parts.ensures.here c.in_ok-a.ensures.here)
     c.behind_for.ensures.here
+
+pub switch-sequence-requires : goal.switch-sequence-requires
+switch-sequence-requires g t c =
+    let begins : c.in_switch-inner.result.start ≤ length (here_of c.without_labels-outer.result.1).names =
+    at_most c.in_switch-inner.result.start (length (here_of c.without_labels-outer.result.1).names) (ap (λ (q : Around). q.start) c.in_switch-inner.ensures) in
+    search (rules, begins, c.decreases, c.as_slice.ensures)
 
 pub switch-returns-clause-tree : goal.switch-returns-clause-tree
 switch-returns-clause-tree g t c =
@@ -170,6 +212,37 @@ case-returns-clause-told g t c =
     let arm = case_walk w c.args.around h (tree.Case c.args.at c.args.e.now c.args.a.now) c.args.at c.args.e.now c.get.result.now is in
     on_ok c.behind_case.result (c.in_ok-a.ensures.told ∙ ap (λ (k : spec.Here). notes c.case_value.new.told.first (x k).faults) c.in_ok-value.ensures.here
     ∙ ap (λ (n : Option Fault). notes n (x (spec.with_case c.args.around h v)).faults) c.in_ok-value.ensures.told ∙ ap (λ (y : spec.Walked Stat). notes c.args.told.now.first y.faults) arm)
+
+pub default-returns-clause-tree : goal.default-returns-clause-tree
+default-returns-clause-tree g t c =
+    let w = within_of g.W.Word.BITS c.args.functions.now in
+    let h = here_of c.args.state in
+    let is : tree.Default c.args.at c.args.a.now ≡ tree.Default c.args.at c.get.result.now = ap (tree.Default c.args.at) (sym c.get.ensures) in
+    let x = spec.walk w c.get.result.now c.args.around in
+    let arm = default_walk w c.args.around h (tree.Default c.args.at c.args.a.now) c.args.at c.get.result.now is in
+    subst (λ (y : Option Stat). IfOk c.behind_default.result (λ r. r.0 ≡ y))
+    (ap (λ (y : Option Stat). spec.kept_if c.args.around.labels_stand (one (stat.Default c.args.at) y)) (c.in_ok-a.ensures.tree ∙ ap (λ (k : spec.Here). (x k).tree) c.in_ok-state.ensures)
+    ∙ ap (λ (y : spec.Walked Stat). y.tree) arm) c.behind_default.ensures.tree
+
+pub default-returns-clause-here : goal.default-returns-clause-here
+default-returns-clause-here g t c =
+    let w = within_of g.W.Word.BITS c.args.functions.now in
+    let h = here_of c.args.state in
+    let is : tree.Default c.args.at c.args.a.now ≡ tree.Default c.args.at c.get.result.now = ap (tree.Default c.args.at) (sym c.get.ensures) in
+    let x = spec.walk w c.get.result.now c.args.around in
+    let arm = default_walk w c.args.around h (tree.Default c.args.at c.args.a.now) c.args.at c.get.result.now is in
+    subst (λ (k : spec.Here). IfOk c.behind_default.result (λ r. here_of r.1 ≡ k)) (c.in_ok-a.ensures.here ∙ ap (λ (k : spec.Here). (x k).here) c.in_ok-state.ensures ∙ ap (λ (y : spec.Walked Stat). y.here) arm)
+    c.behind_default.ensures.here
+
+pub default-returns-clause-told : goal.default-returns-clause-told
+default-returns-clause-told g t c =
+    let w = within_of g.W.Word.BITS c.args.functions.now in
+    let h = here_of c.args.state in
+    let is : tree.Default c.args.at c.args.a.now ≡ tree.Default c.args.at c.get.result.now = ap (tree.Default c.args.at) (sym c.get.ensures) in
+    let x = spec.walk w c.get.result.now c.args.around in
+    let arm = default_walk w c.args.around h (tree.Default c.args.at c.args.a.now) c.args.at c.get.result.now is in
+    on_ok c.behind_default.result (c.in_ok-a.ensures.told ∙ ap (λ (k : spec.Here). notes c.tell_label.new.told.first (x k).faults) c.in_ok-state.ensures
+    ∙ ap (λ (n : Option Fault). notes n (x (spec.with_label c.args.around h None)).faults) c.tell_label.ensures ∙ ap (λ (y : spec.Walked Stat). notes c.args.told.now.first y.faults) arm)
 
 pub guarded-returns-clause-tree : goal.guarded-returns-clause-tree
 guarded-returns-clause-tree g t c =

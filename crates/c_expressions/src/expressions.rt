@@ -9,12 +9,12 @@ ghost use Rattle.c_typing.specs.Types as spec_types;
 ghost use Rattle.c_typing.specs.Expressions as spec;
 ghost use Rattle.c_expressions.specs.Seen.{setting_of};
 
-use crate::nodes;
 use crate::scene::Scene;
 use c_conversions::{
     Told, character, is_mixed, is_no_place, is_void, is_void_beside, number_type, type_of_words,
 };
 use c_names::NoMemory;
+use c_nodes::expressions as nodes;
 use c_tree::syntax::{AssignOperator, Expr};
 use c_tree::typed::Head;
 use c_tree::{At, CType, TypedExpr};

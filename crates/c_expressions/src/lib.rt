@@ -2,7 +2,6 @@
 #![tactic(auto)]
 
 mod expressions;
-mod nodes;
 mod scene;
 
 pub use expressions::{as_value, expression};

@@ -6,41 +6,13 @@ ghost use Rattle.c_typing.specs.Expressions.{broken_if};
 ghost use Rattle.c_typing.specs.Statements as spec;
 ghost use Rattle.c_scopes.specs.Here.{here_of};
 
+use crate::label_list::Labels;
 use crate::state::State;
 use c_conversions::Told;
 use c_names::NoMemory;
 use c_tree::At;
 use c_typing::Around;
-use sqlite_items::Items;
 use std::alloc::Global;
-
-fn same_label(a: Option<u32>, b: Option<u32>) -> bool
-    ensures { result ≡ spec.same_label a b }
-{
-    match a {
-        Some(v) => match b {
-            Some(x) => v == x,
-            None => false,
-        },
-        None => match b {
-            Some(_) => false,
-            None => true,
-        },
-    }
-}
-
-/// By a scan, here.
-fn among(label: Option<u32>, labels: &[Option<u32>]) -> bool
-    ensures { result ≡ spec.among label labels.now }
-{
-    let mut found = false;
-    for x in labels {
-        if same_label(label, *x) {
-            found = true;
-        }
-    }
-    found
-}
 
 /// Tells of a label that doesn't stand in a switch's block, or that stands there twice.
 pub fn tell_label(
@@ -54,7 +26,7 @@ pub fn tell_label(
     ensures { told.new.first ≡ notes told.old.first (spec.label_faults around (here_of state.now) at value_at label) }
 {
     told.tell_if(!around.labels_stand, 28, at);
-    let twice = around.labels_stand && among(label, state.labels.as_slice());
+    let twice = around.labels_stand && state.labels.has(label);
     told.tell_if(twice, 29, value_at);
 }
 
@@ -83,14 +55,15 @@ pub fn with_label<'a>(
 ) -> Result<State<'a>, NoMemory>
     ensures { IfOk result (λ s. here_of s ≡ spec.with_label around (here_of state.entry) label) }
 {
+    if !around.labels_stand {
+        return Ok(state);
+    }
     let State {
         names,
         locals,
-        mut labels,
+        labels,
     } = state;
-    if around.labels_stand {
-        labels.push(label)?;
-    }
+    let labels = labels.with(label)?;
     Ok(State {
         names,
         locals,
@@ -113,7 +86,7 @@ pub fn with_case<'a>(
 }
 
 /// Without labels, for a switch of its own.
-pub fn without_labels<'a>(alloc: Global, state: State<'a>) -> (Items<Option<u32>>, State<'a>)
+pub fn without_labels<'a>(alloc: Global, state: State<'a>) -> (Labels, State<'a>)
     ensures labels { result.0 ≡ (here_of state.entry).labels }
     ensures here { here_of result.1 ≡ spec.without_labels (here_of state.entry) }
 {
@@ -127,13 +100,13 @@ pub fn without_labels<'a>(alloc: Global, state: State<'a>) -> (Items<Option<u32>
         State {
             names,
             locals,
-            labels: Items::new(alloc),
+            labels: Labels::new(alloc),
         },
     )
 }
 
 /// With the labels of the switch around.
-pub fn with_labels<'a>(state: State<'a>, outer: Items<Option<u32>>) -> State<'a>
+pub fn with_labels<'a>(state: State<'a>, outer: Labels) -> State<'a>
     ensures { here_of result ≡ spec.with_labels (here_of state.entry) outer }
 {
     let State { names, locals, .. } = state;

@@ -4,6 +4,7 @@
 
 mod around;
 mod forbidden;
+mod label_list;
 mod labels;
 mod lists;
 mod state;
@@ -13,6 +14,7 @@ pub use forbidden::{
     is_forbidden_function, is_forbidden_object, is_getchar, is_putchar, parameter_type,
     return_type, same_parameters,
 };
+pub use label_list::Labels;
 pub use labels::{tell_case, tell_label, with_case, with_label, with_labels, without_labels};
 pub use lists::with_item;
 pub use state::{State, leave};

@@ -2,6 +2,7 @@
 
 ghost use Rattle.std.specs.Prelude.{◌≡◌, ◌≤◌, length, take, IfOk};
 
+use crate::label_list::Labels;
 use c_names::{Names, NoMemory};
 use c_tree::Object;
 use sqlite_items::Items;
@@ -11,7 +12,7 @@ use sqlite_items::Items;
 pub struct State<'a> {
     pub names: Names<'a>,
     pub locals: Items<Object>,
-    pub labels: Items<Option<u32>>,
+    pub labels: Labels,
 }
 
 /// Leaves a scope.

@@ -15,9 +15,9 @@ use Rattle.c_tree.specs.declared.typed.Stat.TheVariants as stat
 use Rattle.c_typing.specs.declared.names.Around.{Around}
 use Rattle.c_typing.specs.declared.names.Typing.{Typing}
 use Rattle.c_typing.specs.Faults.{◌also◌}
-use Rattle.c_typing.specs.Expressions.{Within, two, three}
+use Rattle.c_typing.specs.Expressions.{Within, one, two, three, together}
 use Rattle.c_typing.specs.Statements as st
-use Rattle.c_statements.specs.Left.{left}
+use Rattle.c_statement_parts.specs.Left.{left}
 use Rattle.c_statements.proofs.Scopes.{at_most, fits, block_here, switch_here, back, for_extends}
 use Rattle.c_scopes.specs.declared.state.State.{State}
 use Rattle.c_scopes.specs.Here.{here_of}
@@ -58,6 +58,10 @@ module _ (g : Within) where
   case_is : (at : At) (e : Expr) (a : Statement) → st.walk g (tree.Case at e a) ≡ st.statement g (s.Case at e (st.walk g a))
   unfolding roll-Statement denote.Hole.Carrier.roll
   case_is at e a = fold-roll-Statement st.Walk (st.statement g) (s.Case at e a)
+
+  default_is : (at : At) (a : Statement) → st.walk g (tree.Default at a) ≡ st.statement g (s.Default at (st.walk g a))
+  unfolding roll-Statement denote.Hole.Carrier.roll
+  default_is at a = fold-roll-Statement st.Walk (st.statement g) (s.Default at a)
 
   module _ (c : Around) (h : st.Here) (x : Statement) where
     abbrev pub whole : st.Walked Stat
@@ -111,6 +115,27 @@ module _ (g : Within) where
 
     pub case_walk : (at : At) (e : Expr) (a : Statement) → x ≡ tree.Case at e a → case_arm at e a ≡ whole
     case_walk at e a is = folded (tree.Case at e a) (st.statement g (s.Case at e (st.walk g a))) is (case_is at e a)
+
+    abbrev pub default_arm : At → Statement → st.Walked Stat
+    default_arm at a =
+        let y = st.walk g a c (st.with_label c h None) in
+        st.walked (st.kept_if c.labels_stand (one (stat.Default at) y.tree)) y.here (st.label_faults c h at at None also y.faults)
+
+    pub default_walk : (at : At) (a : Statement) → x ≡ tree.Default at a → default_arm at a ≡ whole
+    default_walk at a is = folded (tree.Default at a) (st.statement g (s.Default at (st.walk g a))) is (default_is at a)
+
+    abbrev pub for_arm : At → Start → Option Expr → Option Expr → Statement → Around → Around → st.Walked Stat
+    for_arm at i t u a inner p =
+        let b = st.begun g inner h i in
+        let j = st.tested g b.here t in
+        let k = st.stepped g b.here u in
+        let y = st.walk g a p b.here in
+        st.walked (two (st.for_tree at) (together b.tree j.0 k.0) y.tree) (st.behind h y.here) (b.faults also j.1 also k.1 also y.faults)
+
+    pub for_whole : (at : At) (i : Start) (t u : Option Expr) (a : Statement) (inner p : Around) → x ≡ tree.For at i t u a → inner ≡ st.in_block c h → p ≡ st.looped c → for_arm at i t u a inner p ≡ whole
+    for_whole at i t u a inner p is begins loop =
+        ap (λ (q : Around). for_arm at i t u a q p) begins ∙ ap (for_arm at i t u a (st.in_block c h)) loop
+        ∙ folded (tree.For at i t u a) (st.statement g (s.For at i t u (st.walk g a))) is (for_is at i t u a)
 
     pub block_walk : (at : At) (ws : List Statement) (inner : Around) (k : st.Here) → x ≡ tree.Block at ws → inner ≡ st.in_block c h
         → k ≡ left inner.start h (st.sequence g inner h (map (st.walk g) ws)).here → k ≡ whole.here

@@ -2,9 +2,6 @@
 //! that is broken in them.
 #![tactic(auto)]
 
-mod loops;
-mod nodes;
-mod parts;
 mod statements;
 
 pub use statements::sequence;

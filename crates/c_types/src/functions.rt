@@ -19,7 +19,7 @@ use c_functions::{
 };
 use c_names::{Names, NoMemory};
 use c_objects::Functions;
-use c_scopes::{State, return_type};
+use c_scopes::{Labels, State, return_type};
 use c_statements::sequence;
 use c_tree::syntax::{Declaration, External, Identifier, Parameters, Return, Statement};
 use c_tree::{At, CType, Function, Object, Stat};
@@ -94,7 +94,7 @@ fn body<'a, W: Word>(
     let state = State {
         names,
         locals: Items::new(alloc),
-        labels: Items::new(alloc),
+        labels: Labels::new(alloc),
     };
     let (trees, state) = sequence::<W>(alloc, functions, around, told, state, list)?;
     let State { names, locals, .. } = state;

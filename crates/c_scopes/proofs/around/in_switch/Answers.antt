@@ -1,4 +1,4 @@
-use Rattle.std.proofs.Common.{ℕ, true, false, ◌∙◌, ap}
+use Rattle.std.proofs.Common.{ℕ, true, ◌∙◌, ap}
 use Rattle.c_typing.specs.declared.names.Around.{Around}
 use Rattle.c_scopes.proofs.Leaving.{same_length}
 use Rattle.c_scopes.proofs.around.in_switch.Goals as goal

@@ -324,12 +324,16 @@ fn type_at(signature: Option<&Signature>, i: usize) -> Option<CType>
     }
 }
 
-fn argument(alloc: Global, of: Option<CType>, e: Boxed<TypedExpr>) -> Result<TypedExpr, NoMemory>
+fn argument(
+    alloc: Global,
+    of: Option<CType>,
+    e: Boxed<TypedExpr>,
+) -> Result<Boxed<TypedExpr>, NoMemory>
     ensures { IfOk result (λ x. x ≡ spec.argument of e) }
 {
     match of {
-        None => Ok(e.into_inner()),
-        Some(of) => Ok(converted(alloc, of, e)?.into_inner()),
+        None => Ok(e),
+        Some(of) => converted(alloc, of, e),
     }
 }
 
@@ -347,7 +351,8 @@ pub fn push_argument(
     let Some(e) = e else {
         return Ok(false);
     };
-    trees.push(argument(alloc, type_at(signature, i), e)?)?;
+    let e = argument(alloc, type_at(signature, i), e)?;
+    trees.push(e.into_inner())?;
     Ok(true)
 }
 

@@ -5,13 +5,15 @@ ghost use Rattle.c_tree.specs.declared.typed.Stat.TheVariants as stat;
 ghost use Rattle.c_typing.specs.Expressions.{one, two, three, unless};
 ghost use Rattle.c_typing.specs.Statements as spec;
 
-use crate::loops::ForParts;
 use c_conversions::{converted, promoted};
 use c_names::NoMemory;
-use c_tree::typed::Local;
+use c_tree::typed::{Local, Start};
 use c_tree::{At, CType, Stat, TypedExpr};
 use sqlite_items::{Boxed, Items};
 use std::alloc::Global;
+
+/// What stands before the first semicolon of a `for`, the test, and the step.
+pub type ForParts = (Start, Option<Boxed<TypedExpr>>, Option<Boxed<TypedExpr>>);
 
 fn boxed(alloc: Global, s: Stat) -> Result<Option<Boxed<Stat>>, NoMemory>
     ensures { IfOk result (λ r. r ≡ Some s) }

@@ -10,6 +10,7 @@ ghost use Rattle.c_objects.specs.Within.{within_of};
 
 use c_conversions::Told;
 use c_names::NoMemory;
+use c_nodes::statements::ForParts;
 use c_objects::{Functions, expression_at, locals_of, value_at};
 use c_scopes::State;
 use c_tree::syntax::{Expr, Start};
@@ -19,9 +20,6 @@ use c_typing::Around;
 use rtl_word::Word;
 use sqlite_items::{Boxed, Items};
 use std::alloc::Global;
-
-/// What stands before the first semicolon, the test, and the step.
-pub type ForParts = (Begin, Option<Boxed<TypedExpr>>, Option<Boxed<TypedExpr>>);
 
 fn begin_value(e: Option<Boxed<TypedExpr>>) -> Option<Begin>
     ensures { result ≡ one begin.Value e }
@@ -113,6 +111,31 @@ fn stepped<W: Word>(
     }
 }
 
+/// The test and the step.
+fn controls<W: Word>(
+    alloc: Global,
+    functions: &Functions<'_>,
+    told: &mut Told,
+    state: &State<'_>,
+    test: &Option<Expr>,
+    step: &Option<Expr>,
+) -> Result<
+    (
+        Option<Option<Boxed<TypedExpr>>>,
+        Option<Option<Boxed<TypedExpr>>>,
+    ),
+    NoMemory,
+>
+    ensures test { IfOk result (λ r. r.0 ≡ (spec.tested (within_of W.BITS functions.now) (here_of state.now) test.now).0) }
+    ensures step { IfOk result (λ r. r.1 ≡ (spec.stepped (within_of W.BITS functions.now) (here_of state.now) step.now).0) }
+    ensures told { OnOk result (told.new.first ≡ notes told.old.first
+        ((spec.tested (within_of W.BITS functions.now) (here_of state.now) test.now).1 also (spec.stepped (within_of W.BITS functions.now) (here_of state.now) step.now).1)) }
+{
+    let test = tested::<W>(alloc, functions, told, state, test)?;
+    let step = stepped::<W>(alloc, functions, told, state, step)?;
+    Ok((test, step))
+}
+
 fn together(
     a: Option<Begin>,
     b: Option<Option<Boxed<TypedExpr>>>,
@@ -152,7 +175,6 @@ pub fn for_parts<'a, W: Word>(
         b.faults also (spec.tested (within_of W.BITS functions.now) b.here test.now).1 also (spec.stepped (within_of W.BITS functions.now) b.here step.now).1)) }
 {
     let (start, state) = begun::<W>(alloc, functions, around, told, state, start)?;
-    let test = tested::<W>(alloc, functions, told, &state, test)?;
-    let step = stepped::<W>(alloc, functions, told, &state, step)?;
+    let (test, step) = controls::<W>(alloc, functions, told, &state, test, step)?;
     Ok((together(start, test, step), state))
 }

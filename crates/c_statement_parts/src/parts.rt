@@ -7,12 +7,12 @@ ghost use Rattle.c_typing.specs.Expressions.{broken_if, one, two, three};
 ghost use Rattle.c_typing.specs.Statements as spec;
 ghost use Rattle.c_scopes.specs.Here.{here_of};
 ghost use Rattle.c_objects.specs.Within.{within_of};
-ghost use Rattle.c_statements.specs.Left.{left};
+ghost use Rattle.c_statement_parts.specs.Left.{left};
 
-use crate::loops::ForParts;
-use crate::nodes;
 use c_conversions::Told;
 use c_names::NoMemory;
+use c_nodes::statements as nodes;
+use c_nodes::statements::ForParts;
 use c_objects::{Functions, constant_of, expression_at, locals_of, tell_unless, value_at};
 use c_scopes::{State, leave, tell_case, with_case};
 use c_tree::syntax::{Declaration, Expr};
@@ -41,6 +41,26 @@ pub fn declared<'a, W: Word>(
     Ok((nodes::declare(alloc, at, list)?, state))
 }
 
+fn evaluated_tree<W: Word>(
+    alloc: Global,
+    functions: &Functions<'_>,
+    told: &mut Told,
+    state: &State<'_>,
+    at: At,
+    e: &Option<Expr>,
+) -> Result<Option<Boxed<Stat>>, NoMemory>
+    ensures tree { IfOk result (λ t. t ≡ (spec.evaluated (within_of W.BITS functions.now) (here_of state.now) at e.now).tree) }
+    ensures told { OnOk result (told.new.first ≡ notes told.old.first (spec.evaluated (within_of W.BITS functions.now) (here_of state.now) at e.now).faults) }
+{
+    match e {
+        None => nodes::null(alloc, at),
+        Some(e) => {
+            let a = expression_at::<W>(alloc, functions, told, &state.names, e)?;
+            nodes::evaluate(alloc, at, a.tree)
+        }
+    }
+}
+
 pub fn evaluated<'a, W: Word>(
     alloc: Global,
     functions: &Functions<'_>,
@@ -53,11 +73,33 @@ pub fn evaluated<'a, W: Word>(
     ensures here { IfOk result (λ r. here_of r.1 ≡ here_of state.entry) }
     ensures told { OnOk result (told.new.first ≡ notes told.old.first (spec.evaluated (within_of W.BITS functions.now) (here_of state.entry) at e.now).faults) }
 {
+    let tree = evaluated_tree::<W>(alloc, functions, told, &state, at, e)?;
+    Ok((tree, state))
+}
+
+fn returned_tree<W: Word>(
+    alloc: Global,
+    functions: &Functions<'_>,
+    around: Around,
+    told: &mut Told,
+    state: &State<'_>,
+    at: At,
+    e: &Option<Expr>,
+) -> Result<Option<Boxed<Stat>>, NoMemory>
+    ensures tree { IfOk result (λ t. t ≡ (spec.returned (within_of W.BITS functions.now) around (here_of state.now) at e.now).tree) }
+    ensures told { OnOk result (told.new.first ≡ notes told.old.first (spec.returned (within_of W.BITS functions.now) around (here_of state.now) at e.now).faults) }
+{
     match e {
-        None => Ok((nodes::null(alloc, at)?, state)),
+        None => {
+            let wrong = nodes::returns_wrong(around.result, false);
+            told.tell_if(wrong, 30, at);
+            nodes::return_nothing(alloc, wrong, at)
+        }
         Some(e) => {
-            let a = expression_at::<W>(alloc, functions, told, &state.names, e)?;
-            Ok((nodes::evaluate(alloc, at, a.tree)?, state))
+            let wrong = nodes::returns_wrong(around.result, true);
+            told.tell_if(wrong, 30, at);
+            let a = value_at::<W>(alloc, functions, told, &state.names, e)?;
+            nodes::return_value(alloc, wrong, at, around.result, a.tree)
         }
     }
 }
@@ -75,22 +117,8 @@ pub fn returned<'a, W: Word>(
     ensures here { IfOk result (λ r. here_of r.1 ≡ here_of state.entry) }
     ensures told { OnOk result (told.new.first ≡ notes told.old.first (spec.returned (within_of W.BITS functions.now) around (here_of state.entry) at e.now).faults) }
 {
-    match e {
-        None => {
-            let wrong = nodes::returns_wrong(around.result, false);
-            told.tell_if(wrong, 30, at);
-            Ok((nodes::return_nothing(alloc, wrong, at)?, state))
-        }
-        Some(e) => {
-            let wrong = nodes::returns_wrong(around.result, true);
-            told.tell_if(wrong, 30, at);
-            let a = value_at::<W>(alloc, functions, told, &state.names, e)?;
-            Ok((
-                nodes::return_value(alloc, wrong, at, around.result, a.tree)?,
-                state,
-            ))
-        }
-    }
+    let tree = returned_tree::<W>(alloc, functions, around, told, &state, at, e)?;
+    Ok((tree, state))
 }
 
 /// The value of a case, which is a label from here on.

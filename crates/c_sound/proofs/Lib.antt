@@ -1,0 +1,9 @@
+mod Outcomes
+mod Fine
+mod Expressions
+mod Statements
+mod Runs
+mod Nodes
+mod Judged
+mod Walked
+mod Programs

@@ -1,5 +1,5 @@
 -- Naive code does what its source does.
-use Rattle.std.specs.Prelude.{true, ◌≡◌, ◌≤◌, ◌<◌, ℕ, suc, ◌+◌, ◌-◌, ◌*◌, ◌/◌, ◌%◌, ◌^◌, List, [], length, slice_get, slice_index, Option, Some, None, All}
+use Rattle.std.specs.Prelude.{true, ◌≡◌, ◌≤◌, ◌<◌, ℕ, ◌+◌, ◌*◌, ◌/◌, ◌%◌, ◌^◌, List, length, slice_get, slice_index, Option, Some, None, All}
 use Rattle.behaviour.specs.Run.{Run, AreBytes, Same}
 use Rattle.md_shapes.specs.Shapes.{Frame as Fixed}
 use Rattle.c_tree.specs.declared.types.CType.{CType}

@@ -1,5 +1,5 @@
 -- When code does the operations of a function, place by place.
-use Rattle.std.specs.Prelude.{◌≡◌, ◌⊎◌, ℕ, suc, ◌-◌, ◌==◌, if◌then◌else◌, List, [], ◌∷◌, ◌++◌, Some, None, Ok, Contains, All}
+use Rattle.std.specs.Prelude.{◌≡◌, ◌⊎◌, ℕ, suc, ◌-◌, ◌==◌, if◌then◌else◌, List, [], ◌∷◌, Some, None, Ok, Contains, All}
 use Rattle.rtl_word.specs.declared.Rel.{Rel}
 use Rattle.rtl_tree.specs.declared.cells.Cell.TheVariants.{Temp}
 use Rattle.rtl_tree.specs.declared.cells.Lab.TheVariants as label
@@ -14,9 +14,9 @@ use Rattle.md_filled.specs.Doing.{IsSameBut, DoesAs}
 use Rattle.md_shapes.specs.declared.patterns.Pattern.{Pattern}
 use Rattle.md_shapes.specs.declared.patterns.Pattern.TheVariants as shape
 use Rattle.md_shapes.specs.Shapes.{Frame as Fixed, Open, shape_moves}
-use Rattle.temp_machine.specs.Routines.{Exit, Falls, Jumps, Branches, Calls, Returns, BasicBlock, Routine}
+use Rattle.temp_machine.specs.Routines.{Falls, Jumps, Branches, Calls, Returns, Routine}
 use Rattle.temp_machine.specs.Machine.{position, callee_of}
-use Rattle.temp_machine.specs.Live.{Place, Item, Transfer, End, item_at}
+use Rattle.temp_machine.specs.Live.{Place, Transfer, End, item_at}
 use Rattle.naive_code.specs.Operations as code
 use Rattle.naive_code.specs.Operations.{Stop, Op, Make, Meet, Scale, Extend, Close, on_two, with_number}
 

@@ -1,10 +1,9 @@
 -- The example meets all premises of the law.
-use Rattle.std.proofs.Common.{◌≡◌, ℕ, zero, suc, ◌+◌, ◌*◌, ◌%◌, ◌<◌, ◌≤◌, List, [], ◌∷◌, ◌++◌, Some, None, refl, sym, ap, ◌∙◌, subst, arith, true, inl}
-use Rattle.std.specs.Prelude.{slice_get, slice_index, length, unwrap_or, All}
+use Rattle.std.proofs.Common.{◌≡◌, ℕ, zero, suc, ◌+◌, ◌*◌, ◌%◌, ◌<◌, ◌^◌, ◌≤◌, List, [], ◌∷◌, ◌++◌, Some, None, refl, sym, ap, ◌∙◌, subst, arith, true, inl}
+use Rattle.std.specs.Prelude.{slice_get, slice_index, length, unwrap_or}
 use Rattle.std.proofs.lemmas.List.Elements.{All-cons, All-nil}
 use Rattle.behaviour.specs.Behaviour.{Ended}
 use Rattle.rtl_tree.specs.Moves.{Move}
-use Rattle.rtl_norm.specs.Transfers.{IsMoveFitting}
 use Rattle.md_shapes.specs.declared.patterns.Pattern.{Pattern}
 use Rattle.md_shapes.specs.Shapes.{Open, shape_moves}
 use Rattle.md_filled.specs.Doing.{DoesAs}
@@ -36,6 +35,7 @@ use Rattle.naive_code.specs.Storage.{Missing, scalar_count}
 use Rattle.naive_code.specs.Expressions.{Naive, Site, naive, naive_node}
 use Rattle.naive_code.specs.Statements.{Steps, no_steps, joined, used, enclosed, leaving, node_steps, steps_of}
 use Rattle.naive_code.specs.Functions.{site_of, entry_from, body_steps, ending, nowhere, function_ops}
+use Rattle.naive_run.proofs.Fitting.{shape_fits}
 use Rattle.naive_run.specs.Standing.{shaped, One, Stands}
 use Rattle.naive_run.specs.Sound.{is_sound}
 use Rattle.naive_run.specs.Law.{IsFixedBy, IsSoundTarget, IsUnitOf, Expands, HoldsStatic}
@@ -48,14 +48,11 @@ does_itself w ms = record {
   does = λ v d words e. (d, e, record { temps = λ n. refl; registers = λ n. refl; flags = λ n t is. refl; bytes = λ a. refl; input = refl; place = refl; output = refl; halt = refl });
 }
 
-fits_one : (x : Move) → IsMoveFitting 16 x → All (IsMoveFitting 16) (x ∷ [])
-fits_one x h = All-cons (IsMoveFitting 16) x [] h (All-nil (IsMoveFitting 16))
-
 module _ (r : Routine) where
   -- where a shape's own transfer stands
-  makes : (pattern : Pattern) (o : Open) (p : Place) (x : Move) → shape_moves fixed pattern o ≡ x ∷ [] → item_at r p ≡ Some (Transfer (shape_moves fixed pattern o)) → IsMoveFitting 16 x
+  makes : (pattern : Pattern) (o : Open) (p : Place) → item_at r p ≡ Some (Transfer (shape_moves fixed pattern o)) → o.number < 2 ^ 16
       → One 16 fixed r (Make pattern o) p (record { block = p.block; at = suc p.at })
-  makes pattern o p x is at h = (
+  makes pattern o p at small = (
     shaped pattern o ∷ [],
     (0, omega arith, refl),
     (
@@ -63,7 +60,7 @@ module _ (r : Routine) where
       record {
         transfer = shape_moves fixed pattern o;
         at = at;
-        numbers = subst (All (IsMoveFitting 16)) (sym is) (fits_one x h);
+        numbers = shape_fits 16 fixed (inl refl) refl (omega arith) pattern o small;
         does = does_itself 16 (shape_moves fixed pattern o);
         behind = refl;
       },
@@ -127,22 +124,22 @@ adding_is = ops_are adding 10 58 (returning sum_code) adding_frame adding_body
 adding_stands : Stands 16 fixed adding_routine adding_ops (place 0 0) (place 1 0)
 adding_stands = (
   place 0 1,
-  makes adding_routine _ _ (place 0 0) _ refl refl (tt, (tt, omega arith)),
+  makes adding_routine _ _ (place 0 0) refl (omega arith),
   (
     place 0 2,
-    makes adding_routine _ _ (place 0 1) _ refl refl (tt, tt),
+    makes adding_routine _ _ (place 0 1) refl (omega arith),
     (
       place 0 3,
-      makes adding_routine _ _ (place 0 2) _ refl refl (tt, tt),
+      makes adding_routine _ _ (place 0 2) refl (omega arith),
       (
         place 0 4,
-        makes adding_routine _ _ (place 0 3) _ refl refl (tt, tt),
+        makes adding_routine _ _ (place 0 3) refl (omega arith),
         (
           place 0 5,
-          makes adding_routine _ _ (place 0 4) _ refl refl (tt, (tt, tt)),
+          makes adding_routine _ _ (place 0 4) refl (omega arith),
           (
             place 0 6,
-            makes adding_routine _ _ (place 0 5) _ refl refl (tt, tt),
+            makes adding_routine _ _ (place 0 5) refl (omega arith),
             (
               place 1 0,
               returns_to adding_routine 11 (place 0 6) refl refl,
@@ -196,28 +193,28 @@ starting_is = ops_are starting 20 54 (returning call_code) starting_frame starti
 starting_stands : Stands 16 fixed starting_routine starting_ops (place 0 0) (place 2 2)
 starting_stands = (
   place 0 1,
-  makes starting_routine _ _ (place 0 0) _ refl refl (tt, omega arith),
+  makes starting_routine _ _ (place 0 0) refl (omega arith),
   (
     place 0 2,
-    makes starting_routine _ _ (place 0 1) _ refl refl (tt, tt),
+    makes starting_routine _ _ (place 0 1) refl (omega arith),
     (
       place 1 0,
       (place 0 2, ((calling, refl, refl), refl), refl, refl),
       (
         place 1 1,
-        makes starting_routine _ _ (place 1 0) _ refl refl (tt, tt),
+        makes starting_routine _ _ (place 1 0) refl (omega arith),
         (
           place 1 2,
-          makes starting_routine _ _ (place 1 1) _ refl refl (tt, tt),
+          makes starting_routine _ _ (place 1 1) refl (omega arith),
           (
             place 2 0,
             returns_to starting_routine 22 (place 1 2) refl refl,
             (
               place 2 1,
-              makes starting_routine _ _ (place 2 0) _ refl refl (tt, omega arith),
+              makes starting_routine _ _ (place 2 0) refl (omega arith),
               (
                 place 2 2,
-                makes starting_routine _ _ (place 2 1) _ refl refl (tt, tt),
+                makes starting_routine _ _ (place 2 1) refl (omega arith),
                 refl,
               ),
             ),

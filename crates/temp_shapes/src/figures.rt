@@ -159,12 +159,7 @@ fn branches_on(
     branches(alloc, condition, label)
 }
 
-fn branches_by_flag(
-    alloc: Global,
-    relation: Rel,
-    flag: u8,
-    label: Lab,
-) -> Result<Effects, NoMemory>
+fn branches_by_flag(alloc: Global, relation: Rel, flag: u8, label: Lab) -> Result<Effects, NoMemory>
     ensures { IfOk result (λ e. e ≡ set_cell Pc (Binary When (Unary (Test relation) (Read (Flag flag))) (CodeLabel label))) }
 {
     let condition = unary(alloc, UnOp::Test(relation), Expr::Cell(Cell::Flag(flag)))?;
@@ -191,12 +186,7 @@ fn minus_word_bytes(bits: u32) -> u32
     if bits == 16 { 0xfffe } else { 0xffff_fffc }
 }
 
-fn calls_by_stack(
-    alloc: Global,
-    bits: u32,
-    stack: Cell,
-    label: Lab,
-) -> Result<Effects, NoMemory>
+fn calls_by_stack(alloc: Global, bits: u32, stack: Cell, label: Lab) -> Result<Effects, NoMemory>
     requires { IsWordSize bits }
     ensures { IfOk result (λ e. e ≡ stack_call (Binary Add (Read stack) (Number (2 ^ bits - bits / 8))) stack label) }
 {

@@ -195,6 +195,17 @@ narrowed type.Schar v t = Extend v t ∷ []
 narrowed type.Uchar v t = constant t 255 ∷ Meet v t ∷ []
 narrowed _ v t = []
 
+-- which takes a fresh temporary; other conversions take none, so that temporaries are no more than twice what the source weighs
+abbrev pub spare_count : CType → ℕ
+spare_count type.Schar = 1
+spare_count type.Uchar = 1
+spare_count _ = 0
+
+abbrev pub spare_depths : CType → ℕ → List ℕ
+spare_depths type.Schar d = (d + 1) ∷ []
+spare_depths type.Uchar d = (d + 1) ∷ []
+spare_depths _ d = []
+
 -- the address of an element, from the value of its index
 abbrev pub address_in : Storage → Value → Value
 address_in (Elements base of) i = then_on i 3 (λ d. (d + 1) ∷ (d + 2) ∷ (d + 2) ∷ []) (λ v t. addressed base of v t)
@@ -465,7 +476,7 @@ naive_node c (Before h o a) = plain h.of (stepped_before o a.of a.place)
 naive_node c (After h a o) = plain h.of (stepped_after o a.of a.place)
 naive_node c (Binary h a o b) = logical_value h.of (two a.of (sort_of o) a b) (truth_of a.of (sort_of o) a b)
 naive_node c (Unary h o a) = logical_value h.of (one o a) (truth_of_one o a)
-naive_node c (Convert h a) = plain h.of (then_on a.value 1 (λ d. (d + 1) ∷ []) (λ v t. narrowed h.of v t))
+naive_node c (Convert h a) = plain h.of (then_on a.value (spare_count h.of) (spare_depths h.of) (narrowed h.of))
 naive_node c (Comma h a b) = logical_value h.of (both a.value 0 b.value) (tested_after a.value b.test)
 naive_node c (Conditional h a b d) = plain h.of (chosen a.test b.value d.value)
 naive_node c (Call h f es) = plain h.of (call_of (word_bytes c.bits) f (map (λ e. e.value) es))

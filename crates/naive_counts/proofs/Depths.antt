@@ -5,6 +5,7 @@ use Rattle.std.proofs.Math.Nat.{le-max_left, le-max_right}
 use Rattle.std.proofs.lemmas.List.{length-append}
 use Rattle.rtl_word.specs.declared.Rel.{Rel}
 use Rattle.c_tree.specs.declared.types.CType.{CType}
+use Rattle.c_tree.specs.declared.types.CType.TheVariants as type
 use Rattle.c_tree.specs.declared.syntax.UnaryOperator.{UnaryOperator}
 use Rattle.c_tree.specs.declared.syntax.UnaryOperator.TheVariants as unary
 use Rattle.c_tree.specs.declared.syntax.StepOperator.{StepOperator}
@@ -256,12 +257,20 @@ module _ (a : Naive) (x : ℕ) (p : Deep a x) where
         opened = address_deep s a.value x E le three p.value;
       }
 
-  convert_deep : (of : CType) → Deep (naive.plain of (naive.then_on a.value 1 (λ d. (d + 1) ∷ []) (λ v s. naive.narrowed of v s))) (conversion_depth of + x)
+  convert_deep : (of : CType) → Deep (naive.plain of (naive.then_on a.value (naive.spare_count of) (naive.spare_depths of) (naive.narrowed of))) (conversion_depth of + x)
   convert_deep of =
       let least = p.least in
-      plain_deep of (naive.then_on a.value 1 (λ d. (d + 1) ∷ []) (λ v s. naive.narrowed of v s)) (conversion_depth of + x) (omega (arith, least))
-      (λ d. stand_append (d + (conversion_depth of + x)) a.value.temps 1 (a.value.depths d) ((d + 1) ∷ []) (stand_more (d + x) (d + (conversion_depth of + x)) a.value.temps (a.value.depths d) (omega arith) (p.value d))
-      (stand_one (d + (conversion_depth of + x)) (d + 1) (omega (arith, least))))
+      plain_deep of (naive.then_on a.value (naive.spare_count of) (naive.spare_depths of) (naive.narrowed of)) (conversion_depth of + x) (omega (arith, least))
+      (λ d. stand_append (d + (conversion_depth of + x)) a.value.temps (naive.spare_count of) (a.value.depths d) (naive.spare_depths of d)
+      (stand_more (d + x) (d + (conversion_depth of + x)) a.value.temps (a.value.depths d) (omega arith) (p.value d))
+      (spares_stand of d))
+    where
+      spares_stand : (of : CType) (d : ℕ) → Stand (d + (conversion_depth of + x)) (naive.spare_count of) (naive.spare_depths of d)
+      spares_stand type.Schar d = let least = p.least in stand_one _ (d + 1) (omega (arith, least))
+      spares_stand type.Uchar d = let least = p.least in stand_one _ (d + 1) (omega (arith, least))
+      spares_stand type.Int d = stand_none _
+      spares_stand type.Unsigned d = stand_none _
+      spares_stand type.Void d = stand_none _
 
 conditional_deep : (of : CType) (a b c : Naive) (x y z : ℕ) → Deep a x → Deep b y → Deep c z → Deep (naive.plain of (naive.chosen a.test b.value c.value)) (node_depth (x ∷ y ∷ z ∷ []))
 conditional_deep of a b c x y z p q r = plain_deep of (naive.chosen a.test b.value c.value) (node_depth (x ∷ y ∷ z ∷ [])) (node_least (x ∷ y ∷ z ∷ [])) deep

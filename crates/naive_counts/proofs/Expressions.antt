@@ -334,9 +334,9 @@ module _ (a : Naive) (x : Weight) (p : Counted a x) where
       logical_counted of _ _ _ (λ t l. let e = truth_most (naive.denied a.test) (x.total + 3) (λ sense target next t l. p.test (not sense) target next t l) t l in omega (arith, e))
       (λ sense target next t l. let g = p.test (not sense) target next t l in omega (arith, g))
 
-  convert_counted : (of : CType) → Counted (naive.plain of (naive.then_on a.value 1 (λ d. (d + 1) ∷ []) (λ v s. naive.narrowed of v s))) (weighing (conversion_weight of + x.total))
+  convert_counted : (of : CType) → Counted (naive.plain of (naive.then_on a.value (naive.spare_count of) (naive.spare_depths of) (naive.narrowed of))) (weighing (conversion_weight of + x.total))
   convert_counted of =
-      plain_counted of (naive.then_on a.value 1 (λ d. (d + 1) ∷ []) (λ v s. naive.narrowed of v s)) _
+      plain_counted of (naive.then_on a.value (naive.spare_count of) (naive.spare_depths of) (naive.narrowed of)) _
       (λ t l.
       let e = most_append (a.value.ops t l) (naive.narrowed of (a.value.result t) (t + a.value.temps)) in
       let g = p.value t l in let g1 = converted_most of (a.value.result t) (t + a.value.temps) in

@@ -29,7 +29,7 @@ use Rattle.temp_machine.specs.Routines.{Image, Target}
 use Rattle.temp_machine.specs.Small.{Point}
 use Rattle.naive_code.specs.Operations as code
 use Rattle.naive_code.specs.Operations.{Op}
-use Rattle.naive_code.specs.Expressions.{Value, Test, Naive, naive, naive_node, logical_value, leaf, both, then_on, narrowed, joined, computed, compared, in_turn, denied, tested_after, value_of, chosen, compound, stepped_before, stepped_after, negated, two, truth_of, one, called, call_of}
+use Rattle.naive_code.specs.Expressions.{Value, Test, Naive, naive, naive_node, logical_value, leaf, both, then_on, narrowed, spare_count, spare_depths, joined, computed, compared, in_turn, denied, tested_after, value_of, chosen, compound, stepped_before, stepped_after, negated, two, truth_of, one, called, call_of}
 use Rattle.naive_code.specs.Functions.{site_of}
 use Rattle.naive_run.specs.Sound.{Checked, checked, checked_by, type_of, alike, is_word, all_fit, fits_function, are_words, fits_operation, fits_call, a_word}
 use Rattle.naive_step.proofs.Doing.{does_on}
@@ -331,9 +331,9 @@ module _ (t : Target) (u : Image) (m : Fixed) (source : Typed) (f : Function) (k
   node_related (After h a o) = after_related h a o
   node_related (Binary h a o b) = binary_related h a b o
   node_related (Unary h o a) = unary_related h o a
-  node_related (Convert h a) = plain_related t u m source f k ready n call calls h _ (then_on a.1.value 1 (λ d. (d + 1) ∷ []) (λ v s. narrowed h.of v s)) _ a.3 refl
-      (then_fresh a.1.value 1 (λ d. (d + 1) ∷ []) (λ v s. narrowed h.of v s) a.4.fresh)
-      (λ sound few. convert_does t u m source f k ready n a.0.of h.of a.0.value a.1.value (λ d. (d + 1) ∷ []) a.4.fresh (a.4.value sound few))
+  node_related (Convert h a) = plain_related t u m source f k ready n call calls h _ (then_on a.1.value (spare_count h.of) (spare_depths h.of) (narrowed h.of)) _ a.3 refl
+      (then_fresh a.1.value (spare_count h.of) (spare_depths h.of) (narrowed h.of) a.4.fresh)
+      (λ sound few. convert_does t u m source f k ready n a.0.of h.of a.0.value a.1.value (spare_count h.of) (spare_depths h.of) a.4.fresh (a.4.value sound few))
   node_related (Comma h a b) = comma_related h a b
   node_related (Conditional h a b d) = conditional_related h a b d
   node_related (Call h g es) = call_related h g es

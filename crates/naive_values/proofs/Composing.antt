@@ -83,9 +83,9 @@ module _ (t : Target) (u : Image) (m : Fixed) (source : Typed) (f : Function) (k
       (λ b s2 e g. had_since t u m source f k ready by (z.result next) first next q c d b s2 e (omega arith) h.since g))
 
   -- a conversion (C11 6.3.1.3)
-  pub convert_does : (of by : CType) (x : State → Part Result) (v : Value) (depths : ℕ → List ℕ) → IsFresh v → ValueDoes t u m source f k ready n of x v
-      → ValueDoes t u m source f k ready n by (λ s. then_do (then_do (x s) demand) (λ a s1. give (word (as_type t.word by a)) s1)) (then_on v 1 depths (λ a spare. narrowed by a spare))
-  convert_does of by x v depths fresh_v does first label p q c s fresh ops i at rep =
+  pub convert_does : (of by : CType) (x : State → Part Result) (v : Value) (fresh : ℕ) (depths : ℕ → List ℕ) → IsFresh v → ValueDoes t u m source f k ready n of x v
+      → ValueDoes t u m source f k ready n by (λ s. then_do (then_do (x s) demand) (λ a s1. give (word (as_type t.word by a)) s1)) (then_on v fresh depths (narrowed by))
+  convert_does of by x v count depths fresh_v does first label p q c s fresh ops i at rep =
       value_then of v x does (narrowed by (v.result first) (first + v.temps)) (Has t u m source f k ready by (v.result first) first q c) (λ a s1. give (word (as_type t.word by a)) s1)
       first label p q c s fresh ops i at rep
       (λ r d a s1 rest h.

@@ -1,0 +1,4 @@
+pub mod Doing
+pub mod Going
+pub mod Keeping
+pub mod Covered

@@ -52,6 +52,10 @@ pub made_by : (d : RawDescription) (rows : ShapeRows) (pattern : Pattern) (p : O
 made_by d rows pattern p (Ok t) o h k = record { operands = o.fit; transfer = h; elementary = k o.a o.b }
 made_by d rows pattern p (Err e) o h k = tt
 
+pub made_at : (d : RawDescription) (rows : ShapeRows) (pattern : Pattern) (p q : Open) (t : Transfer) → p ≡ q → IsMade d (fixed_in d rows) (shaped pattern p) t
+    → IsMade d (fixed_in d rows) (shaped pattern q) t
+made_at d rows pattern p q t e h = subst (λ (x : Open). IsMade d (fixed_in d rows) (shaped pattern x) t) e h
+
 all_made_then : (d : RawDescription) (m : Fixed) (ss : List Shaped) (ts : List Transfer) (rs : List Shaped) (us : List Transfer) → AllMade d m ss ts → AllMade d m rs us
     → AllMade d m (ss ++ rs) (ts ++ us)
 all_made_then d m [] [] rs us h k = k

@@ -99,7 +99,7 @@ impl Builder {
         first_home: u32,
         slots: u16,
     ) -> Result<Code, NoMemory>
-        ensures { IfOk result (λ c. c ≡ record { function = function; params = params; frame = frame; first_home = first_home; slots = slots; homes = self.entry.homes; blocks = finished (emitted self.entry) }) }
+        ensures { IfOk result (λ c. c ≡ record { function = function; params = params; frame = frame; first_home = first_home; slots = slots; homes = self.homes; blocks = finished (emitted self) }) }
     {
         let Builder {
             mut blocks,

@@ -22,8 +22,10 @@ fn is_flag_for(rows: &ShapeRows, relation: Rel, flag: u8) -> bool
     requires { flag < 8 }
     ensures { (d : Description) → AreShapeRows d rows.now → IsTold (IsFlagOf d relation flag) result }
 {
-    is_covered(rows, Pattern::Compare(flag))
-        && is_covered(rows, Pattern::BranchByFlag(relation, flag))
+    if !is_covered(rows, Pattern::Compare(flag)) {
+        return false;
+    }
+    is_covered(rows, Pattern::BranchByFlag(relation, flag))
 }
 
 /// The first flag by which a comparison and a jump on a relation are covered.

@@ -1,12 +1,12 @@
 -- What an accepted text says is bounded.
-use Rattle.std.proofs.Common.{◌≡◌, ℕ, ◌<◌, ◌≤◌, ◌^◌, ℤ, pos, negsuc, Bool, true, false, not, ◌&&◌, List, [], ◌∷◌, ◌++◌, filter_map, Option, Some, None, unwrap_or, All, Contains, inl, inr, refl, sym, subst, arith, ◌∙◌}
-use Rattle.std.specs.Prelude.{int_le}
-use Rattle.std.specs.List.{list_all, cons_option}
+use Rattle.std.proofs.Common.{◌≡◌, ℕ, ◌/◌, ◌%◌, ◌<◌, ◌≤◌, ◌^◌, ℤ, pos, negsuc, Bool, true, false, not, ◌&&◌, List, [], ◌∷◌, ◌++◌, filter_map, Option, Some, None, unwrap_or, Contains, inl, inr, refl, sym, subst, arith, ◌∙◌}
+use Rattle.std.specs.Prelude.{int_le, ◌==◌}
+use Rattle.std.proofs.Math.Nat.{zero-mod}
+use Rattle.std.specs.List.{cons_option}
 use Rattle.std.proofs.lemmas.Bool.Decides.{nat_tests}
-use Rattle.std.proofs.lemmas.List.Elements.{All-head, All-tail}
 use Rattle.rtl_word.specs.Words.{IsWordSize}
 use Rattle.rtl_tree.specs.Moves.{Move}
-use Rattle.rtl_tree.specs.WellFormed.{IsPlaced, compares_for_flag, takes_for_register}
+use Rattle.rtl_tree.specs.WellFormed.{IsWellFormed}
 use Rattle.md_rows.specs.declared.description.RawDescription.{RawDescription}
 use Rattle.md_text.specs.Forms.{Form, MemorySize}
 use Rattle.md_text.specs.Lines.{kept}
@@ -15,12 +15,13 @@ use Rattle.md_text.specs.Expansion.{Expanded, expansions}
 use Rattle.md_text.specs.Heading.{is_whole, is_from_to, most_memory, is_out_of_range}
 use Rattle.md_text.specs.Rules.{HasGoodTransfer}
 use Rattle.md_text.specs.Accepted.{OutOfRange, BadTransfer, TooMany, HasBrokenRow, IsAccepted, most_rows, counted_rows, row_of, description_of}
-use Rattle.md_said.proofs.Lists.{Each, each_get, all_of_each}
+use Rattle.md_said.proofs.Lists.{Each, each_by, each_get, all_of_each}
 use Rattle.md_said.proofs.Unbroken.{Unbroken, unbroken_from}
 use Rattle.md_said.proofs.Forms.{both_of, some_same}
 use Rattle.md_said.proofs.Whole.{within_most, take_all, contains_at, mapped_at, said_sound}
-use Rattle.md_bounds.specs.Bounds.{IsBoundedMove, IsBounded, SaidIsBounded}
+use Rattle.md_bounds.specs.Bounds.{IsBoundedMove, IsBoundedTransfer, IsBounded, SaidIsBounded}
 use Rattle.md_bounds.proofs.Cells.{IsOverCells, AreOverCells, rows_over}
+use Rattle.md_bounds.proofs.Deciding.{formed, formed_true, formed_is}
 
 -- the memory
 
@@ -47,24 +48,30 @@ memory_from w before [] u = omega arith
 memory_from w before (d ∷ ds) u =
     memory_cons w before d.form (filter_map (λ x. memory_number x.form) ds) u.0 (memory_from w (before ++ d ∷ []) ds u.1)
 
+whole_words : (w : ℕ) (z : ℤ) → not (is_whole w z && is_from_to 4096 (most_memory w) z) ≡ false → number_of z % (w / 8) ≡ 0
+whole_words w (pos n) e =
+    let k = both_of (is_whole w (pos n)) (is_from_to 4096 (most_memory w) (pos n)) (not_false (is_whole w (pos n) && is_from_to 4096 (most_memory w) (pos n)) e) in
+    no_rest (n % (w / 8)) k.0
+  where
+    no_rest : (m : ℕ) → m == 0 ≡ true → m ≡ 0
+    no_rest m e = grind (arith, nat_tests, e)
+whole_words w (negsuc n) e = absurd (cc)
+
+words_cons : (w : ℕ) (before : List Declaration) (form : Form) (zs : List ℤ) → is_out_of_range w before form ≡ false → first_number zs % (w / 8) ≡ 0
+    → first_number (cons_option (memory_number form) zs) % (w / 8) ≡ 0
+words_cons w before (MemorySize z) zs e h = whole_words w z e
+words_cons w before _ zs e h = h
+
+words_from : (w : ℕ) (before ds : List Declaration) → Unbroken (is_out_of_range w) before ds → memory_in ds % (w / 8) ≡ 0
+words_from w before [] u = zero-mod (w / 8)
+words_from w before (d ∷ ds) u =
+    words_cons w before d.form (filter_map (λ x. memory_number x.form) ds) u.0 (words_from w (before ++ d ∷ []) ds u.1)
+
 most_is_word : (w : ℕ) → IsWordSize w → most_memory w < 2 ^ w
 most_is_word w (inl e) = subst (λ (v : ℕ). most_memory v < 2 ^ v) (sym e) (let h : 65534 < 65536 = omega arith in h)
 most_is_word w (inr e) = subst (λ (v : ℕ). most_memory v < 2 ^ v) (sym e) (let h : 16777216 < 4294967296 = omega arith in h)
 
--- comparisons and the input
-
-abbrev stands : Move → Bool
-stands m = compares_for_flag m.to m.value && takes_for_register m.to m.value
-
-stands_by : (a b : Bool) → a ≡ true → b ≡ true → (a && b) ≡ true
-stands_by a b e f = subst (λ (x : Bool). (x && b) ≡ true) (sym e) f
-
-all_stand : (ms : List Move) → All IsPlaced ms → list_all stands ms ≡ true
-all_stand [] h = refl
-all_stand (m ∷ ms) h =
-    let p = All-head IsPlaced m ms h in
-    stands_by (stands m) (list_all stands ms)
-    (stands_by (compares_for_flag m.to m.value) (takes_for_register m.to m.value) p.flags p.input) (all_stand ms (All-tail IsPlaced m ms h))
+-- the transfers of rows
 
 true_by : (b : Bool) → (b ≡ false → ⊥) → b ≡ true
 true_by true h = refl
@@ -73,30 +80,25 @@ true_by false h = absurd (h refl)
 clash : (b : Bool) → b ≡ true → b ≡ false → ⊥
 clash b h k = let q : true ≡ false = sym h ∙ k in cc
 
-row_stands : (d : Declared) (row : Expanded) → Contains (counted_rows d) row → ((line : ℕ) → HasBrokenRow (λ r. HasGoodTransfer r → ⊥) d line → ⊥)
-    → (ms : List Move) → row.transfer ≡ Some ms → list_all stands ms ≡ true
-row_stands d row counted h ms e =
-    true_by (list_all stands ms) (λ t. h row.line (record {
-      row = row;
-      counted = counted;
-      at = refl;
-      breaks = λ g. clash (list_all stands ms)
-          (subst (λ (ns : List Move). list_all stands ns ≡ true) (some_same g.moves ms (sym g.transfer ∙ e)) (all_stand g.moves g.well_formed.placed)) t;
-    }))
+none_some : (ms : List Move) → None ≡ Some ms → ⊥
+none_some ms e = cc
 
-move_bounded : (m : Move) → IsOverCells m → stands m ≡ true → IsBoundedMove m
-move_bounded m c s =
-    let k = both_of (compares_for_flag m.to m.value) (takes_for_register m.to m.value) s in
-    record { goal = c.0; value = c.1; flags = k.0; input = k.1 }
+well_formed : (row : Expanded) (o : Option (List Move)) → row.transfer ≡ o → ((HasGoodTransfer row → ⊥) → ⊥) → IsWellFormed (unwrap_or o [])
+well_formed row (Some ms) e h =
+    formed_is ms (true_by (formed ms) (λ t. h (λ g. clash (formed ms)
+    (subst (λ (ns : List Move). formed ns ≡ true) (some_same g.moves ms (sym g.transfer ∙ e)) (formed_true g.moves g.well_formed)) t)))
+well_formed row None e h = absurd (h (λ g. none_some g.moves (sym e ∙ g.transfer)))
 
-moves_bounded : (ms : List Move) → Each IsOverCells ms → list_all stands ms ≡ true → Each IsBoundedMove ms
-moves_bounded [] c s = tt
-moves_bounded (m ∷ ms) c s =
-    let k = both_of (stands m) (list_all stands ms) s in (move_bounded m c.0 k.0, moves_bounded ms c.1 k.1)
+moves_bounded : (o : Option (List Move)) → AreOverCells o → Each IsBoundedMove (unwrap_or o [])
+moves_bounded None c = tt
+moves_bounded (Some ms) c = each_by IsOverCells IsBoundedMove (λ m k. record { goal = k.0; value = k.1 }) ms c
 
-bounded_by : (o : Option (List Move)) → AreOverCells o → ((ms : List Move) → o ≡ Some ms → list_all stands ms ≡ true) → Each IsBoundedMove (unwrap_or o [])
-bounded_by None c h = tt
-bounded_by (Some ms) c h = moves_bounded ms c (h ms refl)
+row_bounded : (d : Declared) (row : Expanded) → Contains (counted_rows d) row → ((line : ℕ) → HasBrokenRow (λ r. HasGoodTransfer r → ⊥) d line → ⊥)
+    → AreOverCells row.transfer → IsBoundedTransfer (row_of row).effects
+row_bounded d row counted h over = record {
+  moves = all_of_each IsBoundedMove (unwrap_or row.transfer []) (moves_bounded row.transfer over);
+  formed = well_formed row row.transfer refl (λ none. h row.line (record { row = row; counted = counted; at = refl; breaks = none }));
+}
 
 declared_bounded : (text : List ℕ) (d : Declared) → IsAccepted text → Declares text d → IsWordSize d.width → IsBounded (description_of d)
 declared_bounded text d a h size =
@@ -109,11 +111,11 @@ declared_bounded text d a h size =
     let word = most_is_word d.width size in
     record {
       memory = omega (arith, most, word);
-      rows = mapped_at row_of (λ r. All IsBoundedMove r.effects) all
-          (λ i e k. all_of_each IsBoundedMove (unwrap_or e.transfer [])
-          (bounded_by e.transfer (each_get (λ x. AreOverCells x.transfer) all over i e k)
-          (row_stands d e (subst (λ (xs : List Expanded). Contains xs e) (sym whole) (contains_at all i e k))
-          (λ l b. a BadTransfer l (record { declared = d; declares = h; breaks = b })))));
+      words = words_from d.width [] d.all ranges;
+      rows = mapped_at row_of (λ r. IsBoundedTransfer r.effects) all
+          (λ i e k. row_bounded d e (subst (λ (xs : List Expanded). Contains xs e) (sym whole) (contains_at all i e k))
+          (λ l b. a BadTransfer l (record { declared = d; declares = h; breaks = b }))
+          (each_get (λ x. AreOverCells x.transfer) all over i e k));
     }
 
 pub said_bounded : SaidIsBounded

@@ -1,10 +1,10 @@
--- What an accepted description's memory is bounded by, and what the transfers of its rows may name.
-use Rattle.std.specs.Prelude.{◌≡◌, ℕ, ◌<◌, ◌^◌, true, List, slice_get, Some, All}
+-- What an accepted description's memory is bounded by, and what the transfers of its rows may be.
+use Rattle.std.specs.Prelude.{◌≡◌, ℕ, ◌<◌, ◌/◌, ◌%◌, ◌^◌, List, slice_get, Some, All}
 use Rattle.rtl_tree.specs.declared.cells.Cell.{Cell}
 use Rattle.rtl_tree.specs.declared.cells.Cell.TheVariants.{Hard, Flag}
 use Rattle.rtl_tree.specs.Trees.{Tree, Read, Load, Unary, Binary}
 use Rattle.rtl_tree.specs.Moves.{Goal, ToCell, ToMemory, Move}
-use Rattle.rtl_tree.specs.WellFormed.{compares_for_flag, takes_for_register}
+use Rattle.rtl_tree.specs.WellFormed.{IsWellFormed}
 use Rattle.md_rows.specs.declared.description.RawDescription.{RawDescription}
 use Rattle.md_rows.specs.declared.row.Row.{Row}
 use Rattle.md_text.specs.Accepted.{Says}
@@ -26,17 +26,21 @@ abbrev pub IsBoundedGoal : Goal → Type 0
 IsBoundedGoal (ToCell c) = IsBoundedCell c
 IsBoundedGoal (ToMemory d a) = IsBoundedTree a
 
--- an assignment over such cells, in which comparisons go to flags alone, and the input to registers alone
+-- an assignment over such cells
 pub record IsBoundedMove (m : Move) : Type 0 where
   pub goal : IsBoundedGoal m.to
   pub value : IsBoundedTree m.value
-  pub flags : compares_for_flag m.to m.value ≡ true
-  pub input : takes_for_register m.to m.value ≡ true
 
--- each address is a word
+-- a row's transfer over such cells, which with its holes is well formed
+pub record IsBoundedTransfer (ms : List Move) : Type 0 where
+  pub moves : All IsBoundedMove ms
+  pub formed : IsWellFormed ms
+
+-- each address is a word, and the memory is made of words
 pub record IsBounded (d : RawDescription) : Type 0 where
   pub memory : d.memory < 2 ^ d.word
-  pub rows : (i : ℕ) (row : Row) → slice_get d.rows i ≡ Some row → All IsBoundedMove row.effects
+  pub words : d.memory % (d.word / 8) ≡ 0
+  pub rows : (i : ℕ) (row : Row) → slice_get d.rows i ≡ Some row → IsBoundedTransfer row.effects
 
 -- what an accepted text says is such
 abbrev pub SaidIsBounded : Type 0

@@ -39,28 +39,28 @@ use Rattle.md_filled.proofs.Others.{part_of_value, part_of_place, fine_flag}
 
 -- lists
 
-none_some : {A : Type 0} (x : A) → None ≡ Some x → ⊥
+pub none_some : {A : Type 0} (x : A) → None ≡ Some x → ⊥
 none_some x e = cc
 
-some_same : {A : Type 0} (x y : A) → Some x ≡ Some y → x ≡ y
+pub some_same : {A : Type 0} (x y : A) → Some x ≡ Some y → x ≡ y
 some_same x y e = cc
 
-mapped : {A B : Type 0} (f : A → B) (xs : List A) (i : ℕ) (x : A) → slice_get xs i ≡ Some x → slice_get (map f xs) i ≡ Some (f x)
+pub mapped : {A B : Type 0} (f : A → B) (xs : List A) (i : ℕ) (x : A) → slice_get xs i ≡ Some x → slice_get (map f xs) i ≡ Some (f x)
 mapped f xs i x e = slice_get-map f xs i ∙ ap (option_map f) e
 
-record Comes {A B : Type 0} (f : A → B) (o : Option A) (y : B) : Type 0 where
-  from : A
-  is : o ≡ Some from
-  to : f from ≡ y
+pub record Comes {A B : Type 0} (f : A → B) (o : Option A) (y : B) : Type 0 where
+  pub from : A
+  pub is : o ≡ Some from
+  pub to : f from ≡ y
 
 comes : {A B : Type 0} (f : A → B) (o : Option A) (y : B) → option_map f o ≡ Some y → Comes f o y
 comes f (Some x) y e = record { from = x; is = refl; to = some_same (f x) y e }
 comes f None y e = absurd (none_some y e)
 
-unmapped : {A B : Type 0} (f : A → B) (xs : List A) (i : ℕ) (y : B) → slice_get (map f xs) i ≡ Some y → Comes f (slice_get xs i) y
+pub unmapped : {A B : Type 0} (f : A → B) (xs : List A) (i : ℕ) (y : B) → slice_get (map f xs) i ≡ Some y → Comes f (slice_get xs i) y
 unmapped f xs i y e = comes f (slice_get xs i) y (sym (slice_get-map f xs i) ∙ e)
 
-all_at : {A : Type 0} (P : A → Type 0) (xs : List A) (i : ℕ) (x : A) → All P xs → slice_get xs i ≡ Some x → P x
+pub all_at : {A : Type 0} (P : A → Type 0) (xs : List A) (i : ℕ) (x : A) → All P xs → slice_get xs i ≡ Some x → P x
 all_at P xs i x a e = subst P (get_or_from_slice_get xs i x x e) (a i x (slice_get_within xs i x e))
 
 -- marks
@@ -73,12 +73,12 @@ marked_other (u ∷ us) (suc j) zero n e = e
 marked_other (u ∷ us) (suc j) (suc k) n e = marked_other us j k (λ q. n (ap suc q)) e
 
 -- an assignment of a transfer, and the row's to which it is alike
-record Pair (row : List Move) (b : List Bound) (es : List Move) (i : ℕ) : Type 0 where
-  row_move : Move
-  row_is : slice_get row i ≡ Some row_move
-  move : Move
-  among : Among es move
-  alike : IsAlikeMove b row_move move
+pub record Pair (row : List Move) (b : List Bound) (es : List Move) (i : ℕ) : Type 0 where
+  pub row_move : Move
+  pub row_is : slice_get row i ≡ Some row_move
+  pub move : Move
+  pub among : Among es move
+  pub alike : IsAlikeMove b row_move move
 
 behind : (row : List Move) (b : List Bound) (e : Move) (es : List Move) (i : ℕ) → Pair row b es i → Pair row b (e ∷ es) i
 behind row b e es i p = record {
@@ -100,7 +100,7 @@ clash : (k : Bool) → k ≡ true → k ≡ false → ⊥
 clash k e f = let q : true ≡ false = sym e ∙ f in cc
 
 -- each of the row's that has a mark
-of_marked : (row : List Move) (b : List Bound) (es : List Move) (used left : Marks) (i : ℕ) → Takes row b used es left → is_marked left i ≡ true
+pub of_marked : (row : List Move) (b : List Bound) (es : List Move) (used left : Marks) (i : ℕ) → Takes row b used es left → is_marked left i ≡ true
     → is_marked used i ≡ false → Pair row b es i
 of_marked row b _ _ _ i (all_taken used) e f = absurd (clash (is_marked used i) e f)
 of_marked row b _ _ _ i (taken m es j r used left is free alike rest) e f = elim (same_or_not i j) [
@@ -115,13 +115,13 @@ of_marked row b _ _ _ i (taken m es j r used left is free alike rest) e f = elim
 ]
 
 -- the row's to which an assignment is alike
-record Found (row : List Move) (b : List Bound) (m : Move) : Type 0 where
-  place : ℕ
-  row_move : Move
-  row_is : slice_get row place ≡ Some row_move
-  alike : IsAlikeMove b row_move m
+pub record Found (row : List Move) (b : List Bound) (m : Move) : Type 0 where
+  pub place : ℕ
+  pub row_move : Move
+  pub row_is : slice_get row place ≡ Some row_move
+  pub alike : IsAlikeMove b row_move m
 
-of_move : (row : List Move) (b : List Bound) (es : List Move) (used left : Marks) (i : ℕ) (m : Move) → Takes row b used es left → slice_get es i ≡ Some m
+pub of_move : (row : List Move) (b : List Bound) (es : List Move) (used left : Marks) (i : ℕ) (m : Move) → Takes row b used es left → slice_get es i ≡ Some m
     → Found row b m
 of_move row b _ _ _ i m (all_taken used) e = absurd (none_some m e)
 of_move row b _ _ _ zero m (taken n es j r used left is free alike rest) e =
@@ -191,7 +191,7 @@ partner_stores w v _ _ _ _ (stores d a c t u p x y e f i j k n) q = record {
   alike = k;
 }
 
-no_mark : (i : ℕ) → is_marked no_marks i ≡ false
+pub no_mark : (i : ℕ) → is_marked no_marks i ≡ false
 no_mark zero = refl
 no_mark (suc zero) = refl
 no_mark (suc (suc zero)) = refl
@@ -209,14 +209,14 @@ LookSame w v c None None = Unit {0}
 LookSame w v c (Some t) (Some u) = CellSame w v c t u
 LookSame w v c _ _ = ⊥
 
-record FlagGoal (g : Goal) : Type 0 where
-  flag : ℕ
-  is : g ≡ ToCell (Flag flag)
+pub record FlagGoal (g : Goal) : Type 0 where
+  pub flag : ℕ
+  pub is : g ≡ ToCell (Flag flag)
 
 unlike : false ≡ true → ⊥
 unlike e = cc
 
-flag_goal : (w : ℕ) (g : Goal) → is_flag_of 255 (norm_goal w g) ≡ true → FlagGoal g
+pub flag_goal : (w : ℕ) (g : Goal) → is_flag_of 255 (norm_goal w g) ≡ true → FlagGoal g
 flag_goal w (ToCell (Flag n)) e = record { flag = n; is = refl }
 flag_goal w (ToCell (Hard n)) e = absurd (unlike e)
 flag_goal w (ToCell (Temp n)) e = absurd (unlike e)
@@ -268,7 +268,7 @@ value_held w b (ToCell c) t h = norm_held w b t h
 value_held w b (ToMemory Full a) t h = norm_held w b t h
 value_held w b (ToMemory Byte a) t h = stored_held w b (norm w t) (norm_held w b t h)
 
-move_held : (w : ℕ) (b : List Bound) (e : Move) → IsHeldMove w b e → IsHeldMove w b (norm_move w e)
+pub move_held : (w : ℕ) (b : List Bound) (e : Move) → IsHeldMove w b e → IsHeldMove w b (norm_move w e)
 move_held w b e h = record { place = goal_held w b e.to h.place; value = value_held w b e.to e.value h.value }
 
 either_of : (p q : Bool) → (p || q) ≡ true → (p ≡ true) ⊎ (q ≡ true)

@@ -12,7 +12,7 @@ use Rattle.rtl_tree.specs.declared.c_names.Names.{Names}
 use Rattle.rtl_tree.specs.Sorts.{IsFitting}
 use Rattle.rtl_tree.specs.Trees.{Tree, Number, Symbol, CodeLabel, Read, Load, Unary, Binary, NoPair, AnyNumber, AnyName}
 use Rattle.rtl_tree.specs.Moves.{Goal, ToCell, ToMemory, Move}
-use Rattle.rtl_tree.specs.WellFormed.{is_construct, free_of, free_below, compares_for_flag, takes_for_register}
+use Rattle.rtl_tree.specs.WellFormed.{is_construct, free_of, free_below, compares_for_flag, takes_for_register, IsPlaced}
 use Rattle.rtl_norm.specs.Transfers.{IsGoalFitting, IsMoveFitting}
 use Rattle.md_rows.specs.declared.description.RawDescription.{RawDescription}
 use Rattle.md_rows.specs.declared.row.Row.{Row}
@@ -26,7 +26,7 @@ use Rattle.md_rows.specs.Instances.{held_by, filled, register_by, filled_goal, f
 use Rattle.md_match.specs.Searches.{goal_tree}
 use Rattle.md_covers.specs.Covers.{is_register_hole, is_number_hole, is_name_hole, IsRowTree, IsRowMove}
 use Rattle.md_said.specs.Sound.{SaidIsSound}
-use Rattle.md_bounds.specs.Bounds.{IsBoundedTree, IsBoundedGoal, IsBoundedMove, SaidIsBounded}
+use Rattle.md_bounds.specs.Bounds.{IsBoundedTree, IsBoundedGoal, IsBoundedMove, IsBoundedTransfer, SaidIsBounded}
 use Rattle.md_check.specs.Accepted.{normalised_row}
 use Rattle.md_check.specs.Checking.{IsChecked}
 use Rattle.md_instances.specs.Instances.{IsOfDescription}
@@ -234,19 +234,21 @@ module _ (w g : ℕ) (n : Names) (holes : List Hole) (b : List Bound) (fit : All
   side_made (ToMemory d a) t p r q c h f s e =
       let k = both_of (free_of Taken a) (free_of Taken t) e in (tree_made a p q h k.0, tree_made t r c f k.1)
 
-  move_made : (m : Move) → IsRowMove holes m → IsMoveFitting w m → IsBoundedMove m → IsSideOf (Unit {0}) w (filled_goal b m.to) (filled b m.value)
-  move_made m r f c = side_made m.to m.value r.place r.value c.goal c.value f.0 f.1 c.flags c.input
+  move_made : (m : Move) → IsRowMove holes m → IsMoveFitting w m → IsBoundedMove m → IsPlaced m
+      → IsSideOf (Unit {0}) w (filled_goal b m.to) (filled b m.value)
+  move_made m r f c p = side_made m.to m.value r.place r.value c.goal c.value f.0 f.1 p.flags p.input
 
 -- what holds of the rows of an accepted description
 pub record IsMachineRow (w : ℕ) (row : Row) : Type 0 where
   pub effects : All (IsRowMove row.holes) row.effects
   pub numbers : All (IsMoveFitting w) row.effects
-  pub bounded : All IsBoundedMove row.effects
+  pub bounded : IsBoundedTransfer row.effects
 
 row_made : (w g : ℕ) (n : Names) (row : Row) (b : List Bound) → IsMachineRow w row → AllFit w g row.holes b → AreNamed n b → IsMade w (effects_with row b)
 row_made w g n row b s fit named =
     All-map (λ q. IsSideOf (Unit {0}) w q.to q.value) (filled_move b) row.effects
-    (λ k d lt. move_made w g n row.holes b fit named (get_or row.effects k d) (s.effects k d lt) (s.numbers k d lt) (s.bounded k d lt))
+    (λ k d lt. move_made w g n row.holes b fit named (get_or row.effects k d) (s.effects k d lt) (s.numbers k d lt) (s.bounded.moves k d lt)
+    (s.bounded.formed.placed k d lt))
 
 none_some : {A : Type 0} (x : A) → None ≡ Some x → ⊥
 none_some x e = cc

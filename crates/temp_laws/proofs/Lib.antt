@@ -1,0 +1,11 @@
+pub mod Holding
+pub mod Making
+pub mod Simple
+pub mod Places
+pub mod Doing
+pub mod Branching
+pub mod Going
+pub mod Cells
+pub mod Names
+pub mod Covered
+pub mod Targets

@@ -1,0 +1,5 @@
+use Rattle.temp_laws.proofs.Going.{flag_branches_go as law}
+use Rattle.temp_laws.proofs.flag_branches_go.Goals as goal
+
+pub returns : goal.returns
+returns c = law c.said_is_sound.ensures c.said_is_bounded.ensures

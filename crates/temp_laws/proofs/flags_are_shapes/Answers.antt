@@ -1,0 +1,5 @@
+use Rattle.temp_laws.proofs.Names.{flags_are_shapes as law}
+use Rattle.temp_laws.proofs.flags_are_shapes.Goals as goal
+
+pub returns : goal.returns
+returns c = law c.said_is_sound.ensures c.said_is_bounded.ensures

@@ -6,8 +6,9 @@ use Rattle.md_rows.specs.declared.description.RawDescription.{RawDescription}
 use Rattle.md_shapes.specs.declared.patterns.Pattern.TheVariants as shape
 use Rattle.md_shapes.specs.Shapes.{Frame as Fixed}
 use Rattle.md_check.specs.Checking.{IsChecked}
+use Rattle.temp_machine.specs.Routines.{Branches}
 use Rattle.temp_machine.specs.Machine.{position}
-use Rattle.temp_machine.specs.Live.{Place, item_at}
+use Rattle.temp_machine.specs.Live.{Place, Transfer as TransferItem, End as EndItem, item_at}
 use Rattle.temp_code.specs.declared.code.Transfer.{Transfer}
 use Rattle.temp_code.specs.declared.code.End.{End}
 use Rattle.temp_code.specs.declared.code.Block.{Block}
@@ -50,7 +51,7 @@ module _ (laws : AreLaws) (w : ℕ) (d : RawDescription) (m : Fixed) (checked : 
       let here = transfer_at c bs l rest xs t (ts ++ more) e is in
       let one : HasShaped d.word m (routine_of c) s (at bs n) (at bs (suc n)) = record {
         transfer = t.what;
-        at = subst (λ (k : ℕ). item_at (routine_of c) (at bs k) ≡ Some _) (sym q) here;
+        at = subst (λ (k : ℕ). item_at (routine_of c) (at bs k) ≡ Some (TransferItem t.what)) (sym q) here;
         does = laws.bodies w d m s.pattern s.at t checked h.1.operands h.1.transfer h.0;
         behind = refl;
       } in
@@ -71,11 +72,11 @@ module _ (laws : AreLaws) (w : ℕ) (d : RawDescription) (m : Fixed) (checked : 
   ways_stand (Extend a b) way p q h k = (way, h, k)
   ways_stand (Close stop l) way p q h k = absurd (omega (arith, h.1))
 
-  Closed_at : List Block → List Transfer → Stop → Type 0
-  Closed_at bs xs stop = (q : Place) × IsClosed d.word m (routine_of c) stop (at bs (length xs)) q
+  abbrev IsClosedAt : List Block → List Transfer → Stop → Type 0
+  IsClosedAt bs xs stop = (q : Place) × IsClosed d.word m (routine_of c) stop (at bs (length xs)) q
 
   end_stands : (bs : List Block) (l : ℕ) (rest : List Block) (xs : List Transfer) (stop : Stop) (ts : List Transfer) (e : End) → IsEnd d m stop ts e
-      → c.blocks ≡ bs ++ (record { label = l; body = xs ++ ts; end = e } ∷ rest) → Closed_at bs xs stop
+      → c.blocks ≡ bs ++ (record { label = l; body = xs ++ ts; end = e } ∷ rest) → IsClosedAt bs xs stop
   end_stands bs l rest xs _ _ _ falls is = (at bs (length xs), (plain_end_at c bs l rest xs _ is, refl))
   end_stands bs l rest xs _ _ _ leaves is = (at bs (length xs), (plain_end_at c bs l rest xs _ is, refl))
   end_stands bs l rest xs _ _ _ (jumps k t h) is =
@@ -91,7 +92,7 @@ module _ (laws : AreLaws) (w : ℕ) (d : RawDescription) (m : Fixed) (checked : 
         at = transfer_at c bs l rest xs compare [] _ is;
         behind = refl;
         jumps = jump.what;
-        end = subst (λ (n : ℕ). item_at (routine_of c) (at bs n) ≡ Some _) long (end_at c bs l rest (xs ++ compare ∷ []) _ is);
+        end = subst (λ (n : ℕ). item_at (routine_of c) (at bs n) ≡ Some (EndItem (Branches jump.what))) long (end_at c bs l rest (xs ++ compare ∷ []) _ is);
         does = record {
           does = laws.flags w d m r j (on_two_to a b k) compare jump checked (record { a = h.operands.a; b = h.operands.b; number = tt }) h.transfer g.transfer;
         };

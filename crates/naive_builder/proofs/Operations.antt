@@ -80,6 +80,8 @@ built_does_operations laws w d m label os s c checked h once is =
       stands = all_stands laws w d m checked c (begun label) s os all_once h within;
       returns = end_at c s.blocks s.label [] s.body Return is;
       labels = labels;
-      realised = All-weaker _ _ (λ b x. All-weaker _ _ (λ t y. y.0) (transfers_of b) x) c.blocks holds;
-      elementary = All-weaker _ _ (λ b x. All-weaker _ _ (λ t y. y.1) (transfers_of b) x) c.blocks holds;
+      realised = All-weaker (λ (b : Block). All (Holds d m) (transfers_of b)) (λ (b : Block). All (IsRealised d) (transfers_of b))
+          (λ b x. All-weaker (Holds d m) (IsRealised d) (λ (t : Transfer) (y : Holds d m t). y.0) (transfers_of b) x) c.blocks holds;
+      elementary = All-weaker (λ (b : Block). All (Holds d m) (transfers_of b)) (λ (b : Block). All (IsElementary d) (transfers_of b))
+          (λ b x. All-weaker (Holds d m) (IsElementary d) (λ (t : Transfer) (y : Holds d m t). y.1) (transfers_of b) x) c.blocks holds;
     }

@@ -34,7 +34,7 @@ within_finished s = record {
   is = ap (λ (ts : List Transfer). s.blocks ++ (block_with s.label Return ts ∷ [])) (sym (append-nil s.body));
 }
 
-pub within_puts : (bs : List Block) (s : Emitted) (ts : List Transfer) → IsWithin bs (with_transfers s ts) → IsWithin bs s
+abbrev pub within_puts : (bs : List Block) (s : Emitted) (ts : List Transfer) → IsWithin bs (with_transfers s ts) → IsWithin bs s
 within_puts bs s ts h = record {
   more = ts ++ h.more;
   end = h.end;
@@ -42,7 +42,7 @@ within_puts bs s ts h = record {
   is = h.is ∙ ap (λ (xs : List Transfer). s.blocks ++ (block_with s.label h.end xs ∷ h.rest)) (append_assoc s.body ts h.more);
 }
 
-pub within_closes : (bs : List Block) (s : Emitted) (ts : List Transfer) (e : End) (l : ℕ) → IsWithin bs (with_end (with_transfers s ts) e l) → IsWithin bs s
+abbrev pub within_closes : (bs : List Block) (s : Emitted) (ts : List Transfer) (e : End) (l : ℕ) → IsWithin bs (with_end (with_transfers s ts) e l) → IsWithin bs s
 within_closes bs s ts e l h = record {
   more = ts;
   end = e;

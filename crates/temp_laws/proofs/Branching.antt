@@ -26,7 +26,8 @@ use Rattle.md_filled.proofs.Alike.{bound, ok_is, stop_is_no_ok}
 use Rattle.md_filled.proofs.Lookups.{Among, assigned_from, stored_from}
 use Rattle.md_filled.proofs.Doing.{unmapped}
 use Rattle.temp_laws.specs.Doing.{FlagBranchesDoBranches}
-use Rattle.temp_laws.proofs.Making.{Makes, made_of, checked_size}
+use Rattle.temp_shapes.proofs.Roles.{checked_size}
+use Rattle.temp_laws.proofs.Making.{Makes, made_of}
 use Rattle.temp_laws.proofs.Places.{AtFlag, goes_to, from_cell, goal_same}
 use Rattle.temp_laws.proofs.Simple.{at_one}
 use Rattle.temp_laws.proofs.Doing.{shapes_done, bodies_done}

@@ -18,7 +18,7 @@ use Rattle.md_filled.specs.Held.{IsHeld}
 use Rattle.md_filled.proofs.Rewriting.{word_is, name_is}
 use Rattle.temp_machine.specs.Cells.{some_cell}
 
-or_false : (a : Bool) → (a || false) ≡ a
+pub or_false : (a : Bool) → (a || false) ≡ a
 or_false true = refl
 or_false false = refl
 
@@ -28,7 +28,7 @@ or_swaps true false = refl
 or_swaps false true = refl
 or_swaps false false = refl
 
-or_both : (a b c d : Bool) → a ≡ c → b ≡ d → (a || b) ≡ (c || d)
+pub or_both : (a b c d : Bool) → a ≡ c → b ≡ d → (a || b) ≡ (c || d)
 or_both a b c d e f = ap (λ (x : Bool). x || b) e ∙ ap (λ (x : Bool). c || x) f
 
 module _ (q : Cell → Bool) where

@@ -19,7 +19,8 @@ use Rattle.md_filled.specs.Doing.{DoesAs, IsSimple}
 use Rattle.md_filled.proofs.Doing.{row_does_as}
 use Rattle.temp_machine.specs.Cells.{sets_by, some_set}
 use Rattle.temp_laws.specs.Doing.{ends_block, TransfersDoShapes, BodiesDoShapes}
-use Rattle.temp_laws.proofs.Making.{Makes, made_of, checked_size, row_filled}
+use Rattle.temp_shapes.proofs.Roles.{checked_size}
+use Rattle.temp_laws.proofs.Making.{Makes, made_of, row_filled}
 use Rattle.temp_laws.proofs.Places.{sets_equal}
 use Rattle.temp_laws.proofs.Simple.{shape_simple}
 
@@ -82,7 +83,7 @@ module _ (m : Frame) (g : ℕ) (p : Open) (a : IsGeneral g p.a) where
   sets_a : (same_cell Pc p.a || false) ≡ false
   sets_a = ap (λ (b : Bool). b || false) (no_counter g p.a a)
 
-  body_sets : (q : Pattern) → ends_block q ≡ false → some_set (same_cell Pc) (shape_moves m q p) ≡ false
+  pub body_sets : (q : Pattern) → ends_block q ≡ false → some_set (same_cell Pc) (shape_moves m q p) ≡ false
   body_sets shape.Copy e = sets_a
   body_sets shape.SetNumber e = sets_a
   body_sets shape.SetSymbol e = sets_a

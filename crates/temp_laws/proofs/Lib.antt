@@ -9,3 +9,5 @@ pub mod Cells
 pub mod Names
 pub mod Covered
 pub mod Targets
+pub mod Room
+pub mod Conditions

@@ -1,6 +1,5 @@
 -- What makes a transfer of a shape: the row of an accepted description, its binding, and which of its assignments take the shape's.
 use Rattle.std.proofs.Common.{◌≡◌, ◌⊎◌, inl, inr, ℕ, zero, suc, Bool, true, false, List, [], ◌∷◌, map, slice_get, get_or, Some, All, refl, sym, subst, ap, ◌∙◌}
-use Rattle.rtl_word.specs.Words.{IsWordSize}
 use Rattle.rtl_tree.specs.Moves.{Move}
 use Rattle.rtl_tree.specs.WellFormed.{IsWellFormed}
 use Rattle.rtl_tree.proofs.Equality.{and_left, and_right}
@@ -69,9 +68,6 @@ made_of w d frame pattern at t sound bounded c h =
       marks = h.marks;
       does = subst (λ (ns : List Move). Does d.word g h.row.holes (is_idle 255 g) ns (shape_moves frame pattern at) t.by.binding h.marks) good.normal h.does;
     }
-
-pub checked_size : (w : ℕ) (d : RawDescription) → SaidIsSound → IsChecked w d → IsWordSize d.word
-checked_size w d sound c = subst (λ (e : RawDescription). IsWordSize e.word) (sym c.normal) (sound c.text c.said c.accepted.says).size
 
 module _ (w g : ℕ) (es ms : List Move) (m : Makes w g es ms) where
   abbrev pub normal : List Move

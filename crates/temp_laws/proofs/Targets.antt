@@ -147,7 +147,7 @@ result_is_no_general e = cc
 link_is_no_general : (let a : Role = Link in a ≡ General) → ⊥
 link_is_no_general e = cc
 
-abbrev BitsAreSum : Type 0
+abbrev pub BitsAreSum : Type 0
 BitsAreSum = (rs : List Register) → All (λ r. r.number < 64) rs → Differ rs → general_bits rs ≡ general_set rs
 
 abbrev Asked : Frame → List ℕ → RawDescription → Type 0

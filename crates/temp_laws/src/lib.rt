@@ -5,6 +5,7 @@
 //! accepted description has a row; and specs/Targets.antt what holds of its machine.
 #![tactic(auto)]
 
+ghost use Rattle.temp_laws.specs.Conditions.{ConditionsAreKept};
 ghost use Rattle.temp_laws.specs.Covered.{RequiredAreCovered};
 ghost use Rattle.temp_laws.specs.Doing.{BodiesDoShapes, FlagBranchesDoBranches, TransfersDoShapes};
 ghost use Rattle.temp_laws.specs.Going.{BranchesGo, CallsGo, FlagBranchesGo, JumpsGo};
@@ -115,6 +116,16 @@ pub fn required_covered()
 /// register and link register are different and none of them is general.
 pub fn targets_are_sound()
     ensures { TargetsAreSound }
+{
+    said_is_sound();
+    said_is_limited();
+    said_is_bounded();
+    general_bits_are_a_sum();
+}
+
+/// Of a transfer of a shape on temporaries the conditions of code hold that are of one transfer alone: which cells it may set and name.
+pub fn conditions_are_kept()
+    ensures { ConditionsAreKept }
 {
     said_is_sound();
     said_is_limited();

@@ -1,7 +1,8 @@
 -- Transfers that are put into the open block, as operations.
-use Rattle.std.proofs.Common.{◌≡◌, ℕ, ◌<◌, ◌+◌, ◌*◌, ◌^◌, true, false, List, [], ◌∷◌, ◌++◌, Result, Ok, Err, refl, sym, subst, ap, ◌∙◌, inl, inr, arith}
+use Rattle.std.proofs.Common.{◌≡◌, ℕ, ◌<◌, ◌+◌, ◌-◌, ◌*◌, ◌^◌, true, false, List, [], ◌∷◌, ◌++◌, Result, Ok, Err, refl, sym, subst, ap, ◌∙◌, inl, inr, arith}
 use Rattle.std.specs.Prelude.{Contains, IfOk}
 use Rattle.std.proofs.lemmas.List.{append_assoc, append-nil}
+use Rattle.rtl_word.specs.Words.{IsWordSize}
 use Rattle.rtl_tree.specs.declared.memory.NoMemory.{NoMemory}
 use Rattle.rtl_tree.specs.declared.cells.Cell.{Cell}
 use Rattle.rtl_tree.specs.declared.cells.Cell.TheVariants.{Hard, Temp, Flag, Pc, Input, Output, Halt, Hole}
@@ -43,6 +44,15 @@ operands_of d pattern p q e a b n =
 -- each word is a number of its shape
 pub word_number : (w n : ℕ) → n < 2 ^ w → IsNumberOf (runs_of w SetNumber) n
 word_number w n h = inl (record { place = n; within = h; is = omega arith })
+
+-- so is what is less than the bits of a word
+pub less_than_bits : (w n : ℕ) → IsWordSize w → n ≡ w → n - 8 < 2 ^ w
+less_than_bits w n (inl e) h =
+    let small : n - 8 < 2 ^ 16 = omega (arith, e, h) in
+    subst (λ (k : ℕ). n - 8 < 2 ^ k) (sym e) small
+less_than_bits w n (inr e) h =
+    let small : n - 8 < 2 ^ 32 = omega (arith, e, h) in
+    subst (λ (k : ℕ). n - 8 < 2 ^ k) (sym e) small
 
 -- ---- transfers
 

@@ -1,6 +1,5 @@
 use Rattle.temp_shapes.specs.Operands.{open_of}
-use Rattle.std.proofs.Common.{arith}
-use Rattle.std.proofs.lemmas.Bool.Decides.{nat_tests}
+use Rattle.std.proofs.Common.{[], ◌∷◌}
 use Rattle.md_shapes.specs.declared.patterns.Pattern.TheVariants as shape
 use Rattle.temp_code.specs.declared.code.End.TheVariants.{Branch}
 use Rattle.naive_code.specs.Operations.{Branches}

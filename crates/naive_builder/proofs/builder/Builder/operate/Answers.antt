@@ -10,8 +10,8 @@ put_covered-requires-clause-listed g c = usable_listed c.args.m.now c.args.opera
 pub put_covered-requires-clause-covered : goal.put_covered-requires-clause-covered
 put_covered-requires-clause-covered g c = 
     usable_covered c.args.m.now c.args.operator
-    (covered_by g.W.Word.BITS c.args.m.now c.raw-_description.result.now c.args.rows.now c.required_covered.ensures c.raw-_description.ensures.description
-    c.raw-_description.ensures.checked c.requires.rows)
+    (covered_by g.W.Word.BITS c.args.m.now c.raw-description.result.now c.args.rows.now c.required_covered.ensures c.raw-description.ensures.description
+    c.raw-description.ensures.checked c.requires.rows)
     c.requires.operator
 
 pub returns-clause-code : goal.returns-clause-code

@@ -1,19 +1,16 @@
 -- What an accepted description covers, in the code's terms.
 use Rattle.std.proofs.Common.{◌≡◌, ◌⊎◌, inl, inr, ℕ, true, false, Bool, refl, sym, subst}
-use Rattle.std.specs.Prelude.{◌<◌, ◌+◌, is_some, Option, Some, None}
-use Rattle.md_check.proofs.Rows.{earlier_one}
 use Rattle.rtl_word.specs.declared.Rel.{Rel}
 use Rattle.rtl_tree.specs.declared.expressions.BinOp.{BinOp}
 use Rattle.rtl_tree.specs.declared.expressions.BinOp.TheVariants as op
 use Rattle.md_rows.specs.declared.description.RawDescription.{RawDescription}
-use Rattle.md_shapes.specs.declared.patterns.Pattern.{Pattern}
-use Rattle.md_shapes.specs.declared.patterns.Pattern.TheVariants.{Operate, Clear, Branch, Compare, BranchByFlag}
+use Rattle.md_shapes.specs.declared.patterns.Pattern.TheVariants.{Operate, Clear, Branch}
 use Rattle.md_check.specs.Checking.{IsChecked}
 use Rattle.temp_shapes.specs.declared.rows.ShapeRows.{ShapeRows}
 use Rattle.temp_shapes.specs.Patterns.{is_operator}
-use Rattle.temp_shapes.specs.Rows.{AreShapeRows, IsPatternCovered, IsRowFor}
+use Rattle.temp_shapes.specs.Rows.{AreShapeRows, IsPatternCovered}
 use Rattle.temp_laws.specs.Covered.{AreShapesCovered, RequiredAreCovered}
-use Rattle.naive_builder.specs.Covered.{HasOperator, IsUsable, IsFlagOf, IsFlagFor, IsTold}
+use Rattle.naive_builder.specs.Covered.{HasOperator, IsUsable, IsFlagOf, IsTold}
 
 -- by the law, where what was checked is the description at hand
 pub covered_by : (w : ℕ) (d e : RawDescription) (t : ShapeRows) → RequiredAreCovered → e ≡ d → IsChecked w e → AreShapeRows d t → AreShapesCovered d
@@ -65,23 +62,6 @@ flag_there d r k direct none = elim (k.branching r) [
   | inr c ↦ none c.flag (record { is_flag = c.is_flag; compares = c.compares; jumps = c.jumps })
 ]
 
--- ---- what is told
-
-pub told_by_row : (d : RawDescription) (p : Pattern) (o : Option ℕ) → IsRowFor d p o → IsTold (IsPatternCovered d p) (is_some o)
-told_by_row d p (Some k) h = record { at = k; row = h.0; has = h.1; covers = h.2 }
-told_by_row d p None h = h
-
-pub if_told : (P : Type 0) (b : Bool) → b ≡ true → IsTold P b → P
-if_told P b e h = subst (λ (x : Bool). IsTold P x) e h
-
+-- what a test denies
 pub if_not_told : (P : Type 0) (b : Bool) → b ≡ false → IsTold P b → P → ⊥
 if_not_told P b e h = subst (λ (x : Bool). IsTold P x) e h
-
--- of a flag, where the comparison is covered
-pub flag_told : (d : RawDescription) (r : Rel) (j : ℕ) (b : Bool) → j < 8 → IsPatternCovered d (Compare j) → IsTold (IsPatternCovered d (BranchByFlag r j)) b
-    → IsTold (IsFlagOf d r j) b
-flag_told d r j true l c h = record { is_flag = l; compares = c; jumps = h }
-flag_told d r j false l c h = λ f. h f.jumps
-
-pub no_flag_yet : (d : RawDescription) (r : Rel) (n : ℕ) → ((j : ℕ) → j < n → IsFlagOf d r j → ⊥) → (IsFlagOf d r n → ⊥) → (j : ℕ) → j < n + 1 → IsFlagOf d r j → ⊥
-no_flag_yet d r n old new j l f = elim (earlier_one j n l) [ | inl m ↦ old j m f | inr e ↦ new (subst (λ (k : ℕ). IsFlagOf d r k) e f) ]

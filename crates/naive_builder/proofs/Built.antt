@@ -1,5 +1,5 @@
 -- Each operation that was appended is done between two places.
-use Rattle.std.proofs.Common.{◌≡◌, ◌⊎◌, inl, inr, ℕ, suc, ◌+◌, List, [], ◌∷◌, ◌++◌, map, length, Some, refl, sym, ap, ◌∙◌, subst, arith}
+use Rattle.std.proofs.Common.{◌≡◌, inl, inr, ℕ, suc, ◌+◌, List, [], ◌∷◌, ◌++◌, map, length, Some, refl, sym, ap, ◌∙◌, subst, arith}
 use Rattle.std.specs.Prelude.{Contains}
 use Rattle.std.proofs.lemmas.List.{append_assoc, length-append}
 use Rattle.md_rows.specs.declared.description.RawDescription.{RawDescription}
@@ -17,8 +17,8 @@ use Rattle.temp_code.specs.Routines.{block_of, routine_of}
 use Rattle.temp_laws.specs.Doing.{TransfersDoShapes, BodiesDoShapes, FlagBranchesDoBranches}
 use Rattle.temp_laws.specs.Going.{CallsGo}
 use Rattle.naive_code.specs.Operations.{Stop, Op, Make, Meet, Scale, Extend, Close}
-use Rattle.naive_run.specs.Standing.{Shaped, shaped, ways, with_label, on_two_to, HasShaped, HasAll, IsClosed, EndsByFlag, One, Stands}
-use Rattle.naive_builder.specs.Appending.{Emitted, with_transfers, with_end, with_function, IsMade, AllMade, IsEnd, falls, jumps, branches, branches_by_flag, calls, leaves, AppendsOne, puts, closes, Appends, nothing, one_more}
+use Rattle.naive_run.specs.Standing.{Shaped, ways, with_label, on_two_to, HasShaped, HasAll, IsClosed, One, Stands}
+use Rattle.naive_builder.specs.Appending.{Emitted, with_transfers, with_function, AllMade, IsEnd, falls, jumps, branches, branches_by_flag, calls, leaves, AppendsOne, puts, closes, Appends, nothing, one_more}
 use Rattle.naive_builder.specs.Finished.{AreOnce}
 use Rattle.naive_builder.proofs.Places.{place_of, IsWithin, within_puts, within_closes, transfer_at, end_at, plain_end_at}
 use Rattle.naive_builder.proofs.Labels.{labels_in, position_of}
@@ -56,12 +56,15 @@ module _ (laws : AreLaws) (w : ℕ) (d : RawDescription) (m : Fixed) (checked : 
         behind = refl;
       } in
       let next : c.blocks ≡ bs ++ (record { label = l; body = (xs ++ t ∷ []) ++ (ts ++ more); end = e } ∷ rest) =
-          is ∙ ap (λ (ys : List Transfer). bs ++ (record { label = l; body = ys; end = e } ∷ rest)) (sym (append_assoc xs (t ∷ []) (ts ++ more))) in
+      is ∙ ap (λ (ys : List Transfer). bs ++ (record { label = l; body = ys; end = e } ∷ rest)) (sym (append_assoc xs (t ∷ []) (ts ++ more))) in
       let long : length (xs ++ t ∷ []) ≡ length xs + 1 = length-append xs (t ∷ []) in
       let deeper : suc n ≡ length (xs ++ t ∷ []) = omega (arith, long, q) in
-      let sum : suc n + length ts ≡ n + suc (length ts) = omega arith in
-      (at bs (suc n), one, subst (λ (k : ℕ). HasAll d.word m (routine_of c) way (at bs (suc n)) (at bs k)) sum
-      (all_stand bs l rest (xs ++ t ∷ []) way ts more e (suc n) h.2 next deeper))
+      let sum : suc n + length ts ≡ n + suc (length ts) = omega arith in (
+        at bs (suc n),
+        one,
+        subst (λ (k : ℕ). HasAll d.word m (routine_of c) way (at bs (suc n)) (at bs k)) sum
+            (all_stand bs l rest (xs ++ t ∷ []) way ts more e (suc n) h.2 next deeper),
+      )
   all_stand bs l rest xs [] (t ∷ ts) more e n h is q = absurd h
   all_stand bs l rest xs (s ∷ way) [] more e n h is q = absurd h
 
@@ -86,17 +89,19 @@ module _ (laws : AreLaws) (w : ℕ) (d : RawDescription) (m : Fixed) (checked : 
   end_stands bs l rest xs _ _ _ (branches r a b k t h) is =
       (at bs (length xs), inl ((t.what, plain_end_at c bs l rest xs _ is, laws.transfers w d m (shape.Branch r) (on_two_to a b k) t checked h.operands h.transfer), refl))
   end_stands bs l rest xs _ _ _ (branches_by_flag r a b k j compare jump h g) is =
-      let long : length (xs ++ compare ∷ []) ≡ suc (length xs) = length-append xs (compare ∷ []) ∙ omega arith in
-      (at bs (suc (length xs)), inr (record {
-        compares = compare.what;
-        at = transfer_at c bs l rest xs compare [] _ is;
-        behind = refl;
-        jumps = jump.what;
-        end = subst (λ (n : ℕ). item_at (routine_of c) (at bs n) ≡ Some (EndItem (Branches jump.what))) long (end_at c bs l rest (xs ++ compare ∷ []) _ is);
-        does = record {
-          does = laws.flags w d m r j (on_two_to a b k) compare jump checked (record { a = h.operands.a; b = h.operands.b; number = tt }) h.transfer g.transfer;
-        };
-      }))
+      let long : length (xs ++ compare ∷ []) ≡ suc (length xs) = length-append xs (compare ∷ []) ∙ omega arith in (
+        at bs (suc (length xs)),
+        inr (record {
+          compares = compare.what;
+          at = transfer_at c bs l rest xs compare [] _ is;
+          behind = refl;
+          jumps = jump.what;
+          end = subst (λ (n : ℕ). item_at (routine_of c) (at bs n) ≡ Some (EndItem (Branches jump.what))) long (end_at c bs l rest (xs ++ compare ∷ []) _ is);
+          does = record {
+            does = laws.flags w d m r j (on_two_to a b k) compare jump checked (record { a = h.operands.a; b = h.operands.b; number = tt }) h.transfer g.transfer;
+          };
+        }),
+      )
 
   one_stands : (s t : Emitted) (o : Op) → AreOnce (labels_in c.blocks) → AppendsOne d m s o t → IsWithin c.blocks t → One d.word m (routine_of c) o (place_of s) (place_of t)
   one_stands _ _ _ once (puts s o way ts h k) i =
@@ -111,8 +116,8 @@ module _ (laws : AreLaws) (w : ℕ) (d : RawDescription) (m : Fixed) (checked : 
       let before = s.blocks ++ record { label = s.label; body = s.body ++ ts; end = e } ∷ [] in
       let count : length before ≡ suc (length s.blocks) = length-append s.blocks _ ∙ omega arith in
       let at_label : position (map block_of c.blocks) l 0 ≡ length before =
-          ap (λ (bs : List Block). position (map block_of bs) l 0) i.is
-          ∙ position_of before (record { label = l; body = i.more; end = i.end }) i.rest (subst (λ (bs : List Block). AreOnce (labels_in bs)) i.is once) in
+      ap (λ (bs : List Block). position (map block_of bs) l 0) i.is
+      ∙ position_of before (record { label = l; body = i.more; end = i.end }) i.rest (subst (λ (bs : List Block). AreOnce (labels_in bs)) i.is once) in
       (closed.0, closed.1, at_label ∙ count, ap (λ (n : ℕ). record { block = n; at = 0 }) count)
 
   pub all_stands : (s t : Emitted) (os : List Op) → AreOnce (labels_in c.blocks) → Appends d m s os t → IsWithin c.blocks t

@@ -1,5 +1,5 @@
 -- Operations that are appended in parts.
-use Rattle.std.proofs.Common.{◌≡◌, List, [], ◌∷◌, ◌++◌, sym, subst}
+use Rattle.std.proofs.Common.{◌≡◌, List, [], ◌++◌, sym, subst}
 use Rattle.md_rows.specs.declared.description.RawDescription.{RawDescription}
 use Rattle.md_shapes.specs.Shapes.{Frame as Fixed}
 use Rattle.temp_shapes.specs.declared.rows.ShapeRows.{ShapeRows}

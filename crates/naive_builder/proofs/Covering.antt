@@ -1,5 +1,5 @@
 -- What an accepted description covers, in the code's terms.
-use Rattle.std.proofs.Common.{◌≡◌, ◌⊎◌, inl, inr, ℕ, true, false, Bool, refl, sym, subst}
+use Rattle.std.proofs.Common.{◌≡◌, inl, inr, ℕ, true, false, Bool, refl, subst}
 use Rattle.rtl_word.specs.declared.Rel.{Rel}
 use Rattle.rtl_tree.specs.declared.expressions.BinOp.{BinOp}
 use Rattle.rtl_tree.specs.declared.expressions.BinOp.TheVariants as op
@@ -10,14 +10,14 @@ use Rattle.temp_shapes.specs.declared.rows.ShapeRows.{ShapeRows}
 use Rattle.temp_shapes.specs.Patterns.{is_operator}
 use Rattle.temp_shapes.specs.Rows.{AreShapeRows, IsPatternCovered}
 use Rattle.temp_laws.specs.Covered.{AreShapesCovered, RequiredAreCovered}
-use Rattle.naive_builder.specs.Covered.{HasOperator, IsUsable, IsFlagOf, IsTold}
+use Rattle.naive_builder.specs.Covered.{IsUsable, IsFlagOf, IsTold}
 
 -- by the law, where what was checked is the description at hand
 pub covered_by : (w : ℕ) (d e : RawDescription) (t : ShapeRows) → RequiredAreCovered → e ≡ d → IsChecked w e → AreShapeRows d t → AreShapesCovered d
 covered_by w d e t law same checked rows = law w d t (subst (λ (x : RawDescription). IsChecked w x) same checked) rows
 
 pub clear_covered : (d : RawDescription) → AreShapesCovered d → (IsPatternCovered d (Operate op.And) → ⊥) → IsPatternCovered d Clear
-clear_covered d h n = elim h.clearing [ | inl c ↦ absurd (n c) | inr c ↦ c ]
+clear_covered d h n = elim h.clearing [ inl c ↦ absurd (n c) | inr c ↦ c ]
 
 pub usable_listed : (d : RawDescription) (o : BinOp) → IsUsable d o → is_operator o ≡ true
 usable_listed d op.Add h = refl

@@ -1,5 +1,5 @@
 -- The labels of emitted code, and where the block of a label stands.
-use Rattle.std.proofs.Common.{◌≡◌, ℕ, suc, ◌+◌, ◌≤◌, Bool, true, false, List, [], ◌∷◌, ◌++◌, map, length, refl, sym, ap, ◌∙◌, subst, arith}
+use Rattle.std.proofs.Common.{◌≡◌, ℕ, suc, ◌+◌, ◌≤◌, Bool, true, false, List, [], ◌∷◌, ◌++◌, map, length, refl, sym, ap, ◌∙◌, arith}
 use Rattle.std.specs.Prelude.{◌==◌, if◌then◌else◌, Contains}
 use Rattle.std.proofs.lemmas.Bool.Decides.{nat_tests}
 use Rattle.std.proofs.lemmas.List.{append_assoc, map-append}
@@ -36,7 +36,7 @@ nowhere_before : (bs : List Block) (b : Block) (rest : List Block) → AreOnce (
 nowhere_before bs b rest once =
     let l = b.label in
     let cut : times l (labels_in (bs ++ (b ∷ rest))) ≡ times l (labels_in bs) + times l (labels_in (b ∷ rest)) =
-        ap (λ (ls : List ℕ). times l ls) (map-append (λ (x : Block). x.label) bs (b ∷ rest)) ∙ times_append l (labels_in bs) (labels_in (b ∷ rest)) in
+    ap (λ (ls : List ℕ). times l ls) (map-append (λ (x : Block). x.label) bs (b ∷ rest)) ∙ times_append l (labels_in bs) (labels_in (b ∷ rest)) in
     let one : times l (labels_in (b ∷ rest)) ≡ 1 + times l (labels_in rest) = ap (λ (n : ℕ). n + times l (labels_in rest)) (if_true (l == l) 1 0 (itself l)) in
     let most : times l (labels_in (bs ++ (b ∷ rest))) ≤ 1 = once l in
     omega (arith, cut, one, most)
@@ -47,7 +47,7 @@ position_from [] b rest k e = if_true (b.label == b.label) k _ (itself b.label) 
 position_from (x ∷ bs) b rest k e =
     let h = not_counted (x.label == b.label) (times b.label (labels_in bs)) e in
     let skipped : position (map block_of ((x ∷ bs) ++ (b ∷ rest))) b.label k ≡ position (map block_of (bs ++ (b ∷ rest))) b.label (suc k) =
-        ap (λ (q : Bool). if q then k else position (map block_of (bs ++ (b ∷ rest))) b.label (suc k)) h.0 in
+    ap (λ (q : Bool). if q then k else position (map block_of (bs ++ (b ∷ rest))) b.label (suc k)) h.0 in
     let sum : suc k + length bs ≡ k + suc (length bs) = omega arith in
     skipped ∙ (position_from bs b rest (suc k) h.1 ∙ sum)
 

@@ -1,5 +1,5 @@
 -- Finished code does the operations that were appended.
-use Rattle.std.proofs.Common.{◌≡◌, ℕ, List, [], ◌∷◌, ◌++◌, map, length, Some, refl, sym, ap, ◌∙◌, subst}
+use Rattle.std.proofs.Common.{◌≡◌, ℕ, List, [], ◌∷◌, ◌++◌, sym, ap, ◌∙◌, subst}
 use Rattle.std.specs.List.{All}
 use Rattle.std.proofs.lemmas.List.Elements.{All-nil, All-cons, All-append, All-push, All-weaker}
 use Rattle.md_rows.specs.declared.description.RawDescription.{RawDescription}
@@ -8,12 +8,11 @@ use Rattle.temp_code.specs.declared.code.Transfer.{Transfer}
 use Rattle.temp_code.specs.declared.code.End.{End}
 use Rattle.temp_code.specs.declared.code.End.TheVariants.{Return}
 use Rattle.temp_code.specs.declared.code.Block.{Block}
-use Rattle.temp_code.specs.declared.code.Code.{Code}
 use Rattle.temp_code.specs.Realised.{IsRealised, end_transfers, transfers_of}
 use Rattle.temp_shapes.specs.Elementary.{IsElementary}
 use Rattle.naive_code.specs.Operations.{Stop, Op}
 use Rattle.naive_run.specs.Standing.{Shaped}
-use Rattle.naive_builder.specs.Appending.{Emitted, begun, with_transfers, IsMade, AllMade, IsEnd, falls, jumps, branches, branches_by_flag, calls, leaves, AppendsOne, puts, closes, Appends, nothing, one_more, opened}
+use Rattle.naive_builder.specs.Appending.{Emitted, begun, IsMade, AllMade, IsEnd, falls, jumps, branches, branches_by_flag, calls, leaves, AppendsOne, puts, closes, Appends, nothing, one_more, opened}
 use Rattle.naive_builder.specs.Finished.{finished, AreOnce, FinishedDoesOperations}
 use Rattle.naive_builder.proofs.Places.{place_of, IsWithin, within_finished, end_at}
 use Rattle.naive_builder.proofs.Labels.{labels_in, labels_of}

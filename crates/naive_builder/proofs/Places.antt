@@ -1,5 +1,5 @@
 -- Where what is emitted stands in the finished code.
-use Rattle.std.proofs.Common.{◌≡◌, ℕ, suc, List, [], ◌∷◌, ◌++◌, map, length, slice_get, Some, refl, sym, ap, ◌∙◌}
+use Rattle.std.proofs.Common.{◌≡◌, ℕ, List, [], ◌∷◌, ◌++◌, map, length, slice_get, Some, refl, sym, ap, ◌∙◌}
 use Rattle.std.proofs.lemmas.List.{append_assoc, append-nil}
 use Rattle.temp_machine.specs.Routines.{Exit}
 use Rattle.temp_machine.specs.Live.{Place, Transfer as TransferItem, End as EndItem, item_in, item_of, item_at}

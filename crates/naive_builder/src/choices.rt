@@ -205,7 +205,9 @@ impl Builder {
             self.put_covered::<W>(alloc, m, rows, Pattern::ExtendByte, a, a)?;
             return Ok(());
         }
-        if is_covered(rows, Pattern::Operate(BinOp::Shl)) && is_covered(rows, Pattern::Operate(BinOp::Shr)) {
+        if is_covered(rows, Pattern::Operate(BinOp::Shl))
+            && is_covered(rows, Pattern::Operate(BinOp::Shr))
+        {
             self.shift_twice::<W>(alloc, m, rows, a, spare)?;
             return Ok(());
         }

@@ -47,8 +47,7 @@ impl Builder {
         ensures homes { OnOk result (self.new.homes ≡ self.old.homes) }
         ensures labels { OnOk result (self.new.next_label ≡ self.old.next_label) }
     {
-        let transfer =
-            always_covered::<W>(alloc, m, rows, Pattern::Jump, with_label(target))?;
+        let transfer = always_covered::<W>(alloc, m, rows, Pattern::Jump, with_label(target))?;
         self.close(alloc, End::Jump(transfer), opened)?;
         Ok(())
     }
@@ -144,8 +143,7 @@ impl Builder {
         ensures homes { OnOk result (self.new.homes ≡ self.old.homes) }
         ensures labels { OnOk result (self.new.next_label ≡ self.old.next_label) }
     {
-        let transfer =
-            always_covered::<W>(alloc, m, rows, Pattern::Call, with_function(function))?;
+        let transfer = always_covered::<W>(alloc, m, rows, Pattern::Call, with_function(function))?;
         self.close(alloc, End::Call(transfer), opened)?;
         Ok(())
     }

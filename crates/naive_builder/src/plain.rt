@@ -371,5 +371,4 @@ impl Builder {
     {
         self.apply::<W>(alloc, m, rows, Pattern::SetResult, a, a)
     }
-
 }

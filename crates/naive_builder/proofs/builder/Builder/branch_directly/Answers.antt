@@ -11,8 +11,8 @@ pub covered-requires-clause-operands : goal.covered-requires-clause-operands
 covered-requires-clause-operands g c = operands_of c.args.m.now (shape.Branch c.args.relation) (open_of c.on_two_to-at.result) (on_two_to c.args.a c.args.b c.args.target) c.on_two_to-at.ensures tt tt tt
 
 pub returns-clause-code : goal.returns-clause-code
-returns-clause-code g c = 
+returns-clause-code g c =
     let made = made_at c.args.m.now c.args.rows.now (shape.Branch c.args.relation) (open_of c.on_two_to-at.result) (on_two_to c.args.a c.args.b c.args.target) c.in_ok-jump.jump c.on_two_to-at.ensures
-        c.in_ok-jump.ensures in
+    c.in_ok-jump.ensures in
     emits_plain_end c.args.m.now c.args.rows.now c.args.self.now c.close.new.self (Branches c.args.relation c.args.a c.args.b c.args.target) c.args.opened
     (Branch c.in_ok-jump.jump) (branches c.args.relation c.args.a c.args.b c.args.target c.in_ok-jump.jump made) c.in_ok-close.ensures.code

@@ -10,7 +10,7 @@ pub always_covered-requires-clause-operands : goal.always_covered-requires-claus
 always_covered-requires-clause-operands g c = operands_of c.args.m.now shape.Call (open_of c.with_function.result) (with_function c.args.function) c.with_function.ensures tt tt tt
 
 pub returns-clause-code : goal.returns-clause-code
-returns-clause-code g c = 
+returns-clause-code g c =
     let made = made_at c.args.m.now c.args.rows.now shape.Call (open_of c.with_function.result) (with_function c.args.function) c.in_ok-transfer.transfer c.with_function.ensures c.in_ok-transfer.ensures in
     emits_plain_end c.args.m.now c.args.rows.now c.args.self.now c.close.new.self (Calls c.args.function) c.args.opened (Call c.in_ok-transfer.transfer)
     (calls c.args.function c.in_ok-transfer.transfer made) c.in_ok-close.ensures.code

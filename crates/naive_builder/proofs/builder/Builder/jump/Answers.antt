@@ -11,7 +11,7 @@ pub always_covered-requires-clause-operands : goal.always_covered-requires-claus
 always_covered-requires-clause-operands g c = operands_of c.args.m.now shape.Jump (open_of c.with_label.result) (with_label c.args.target) c.with_label.ensures tt tt tt
 
 pub returns-clause-code : goal.returns-clause-code
-returns-clause-code g c = 
+returns-clause-code g c =
     let made = made_at c.args.m.now c.args.rows.now shape.Jump (open_of c.with_label.result) (with_label c.args.target) c.in_ok-transfer.transfer c.with_label.ensures c.in_ok-transfer.ensures in
     emits_plain_end c.args.m.now c.args.rows.now c.args.self.now c.close.new.self (Jumps c.args.target) c.args.opened (Jump c.in_ok-transfer.transfer)
     (jumps c.args.target c.in_ok-transfer.transfer made) c.in_ok-close.ensures.code

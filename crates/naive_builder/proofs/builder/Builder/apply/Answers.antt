@@ -1,0 +1,7 @@
+use Rattle.naive_code.specs.Operations as code
+use Rattle.naive_builder.proofs.Putting.{emits_made}
+use Rattle.naive_builder.proofs.builder.Builder.apply.Goals as goal
+
+pub returns-clause-code : goal.returns-clause-code
+returns-clause-code g c =
+    emits_made c.args.m.now c.args.rows.now c.args.self.now c.put_always.new.self c.args.pattern (code.on_two c.args.a c.args.b) c.in_ok-put_always.ensures.code

@@ -1,0 +1,26 @@
+use Rattle.temp_shapes.specs.Operands.{open_of}
+use Rattle.std.proofs.Common.{[], ◌∷◌}
+use Rattle.md_shapes.specs.declared.patterns.Pattern.TheVariants as shape
+use Rattle.temp_code.specs.declared.code.End.TheVariants.{Branch}
+use Rattle.naive_code.specs.Operations.{Branches}
+use Rattle.naive_run.specs.Standing.{on_two_to}
+use Rattle.naive_builder.specs.Appending.{branches_by_flag}
+use Rattle.naive_builder.proofs.Putting.{operands_of, made_at, emits_end}
+use Rattle.naive_builder.proofs.builder.Builder.branch_by.Goals as goal
+
+pub covered-requires-clause-operands : goal.covered-requires-clause-operands
+covered-requires-clause-operands g c = operands_of c.args.m.now (shape.Compare c.args.flag) (open_of c.on_two_to-at.result) (on_two_to c.args.a c.args.b c.args.target) c.on_two_to-at.ensures tt tt tt
+
+pub covered-requires-2-clause-operands : goal.covered-requires-2-clause-operands
+covered-requires-2-clause-operands g c = operands_of c.args.m.now (shape.BranchByFlag c.args.relation c.args.flag) (open_of c.on_two_to-at.result) (on_two_to c.args.a c.args.b c.args.target) c.on_two_to-at.ensures tt tt tt
+
+pub returns-clause-code : goal.returns-clause-code
+returns-clause-code g c =
+    let compare = made_at c.args.m.now c.args.rows.now (shape.Compare c.args.flag) (open_of c.on_two_to-at.result) (on_two_to c.args.a c.args.b c.args.target) c.in_ok-compare.compare c.on_two_to-at.ensures
+    c.in_ok-compare.ensures in
+    let jump = made_at c.args.m.now c.args.rows.now (shape.BranchByFlag c.args.relation c.args.flag) (open_of c.on_two_to-at.result) (on_two_to c.args.a c.args.b c.args.target) c.in_ok-jump.jump
+    c.on_two_to-at.ensures c.in_ok-jump.ensures in
+    emits_end c.args.m.now c.args.rows.now c.args.self.now c.put.new.self c.close.new.self (Branches c.args.relation c.args.a c.args.b c.args.target) c.args.opened
+    (c.in_ok-compare.compare ∷ []) (Branch c.in_ok-jump.jump)
+    (branches_by_flag c.args.relation c.args.a c.args.b c.args.target c.args.flag c.in_ok-compare.compare c.in_ok-jump.jump compare jump)
+    c.in_ok-put.ensures.code c.in_ok-close.ensures.code

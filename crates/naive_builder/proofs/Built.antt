@@ -1,7 +1,8 @@
 -- Each operation that was appended is done between two places.
-use Rattle.std.proofs.Common.{◌≡◌, inl, inr, ℕ, suc, ◌+◌, List, [], ◌∷◌, ◌++◌, map, length, Some, refl, sym, ap, ◌∙◌, subst, arith}
+use Rattle.std.proofs.Common.{◌≡◌, inl, inr, ℕ, suc, ◌+◌, ◌^◌, ◌<◌, List, [], ◌∷◌, ◌++◌, map, length, Some, refl, sym, ap, ◌∙◌, subst, arith}
 use Rattle.std.specs.Prelude.{Contains}
 use Rattle.std.proofs.lemmas.List.{append_assoc, length-append}
+use Rattle.rtl_word.specs.Words.{IsWordSize}
 use Rattle.md_rows.specs.declared.description.RawDescription.{RawDescription}
 use Rattle.md_shapes.specs.declared.patterns.Pattern.TheVariants as shape
 use Rattle.md_shapes.specs.Shapes.{Frame as Fixed}
@@ -21,6 +22,7 @@ use Rattle.naive_run.specs.Standing.{Shaped, ways, with_label, on_two_to, HasSha
 use Rattle.naive_builder.specs.Appending.{Emitted, with_transfers, with_function, AllMade, IsEnd, falls, jumps, branches, branches_by_flag, calls, leaves, AppendsOne, puts, closes, Appends, nothing, one_more}
 use Rattle.naive_builder.specs.Finished.{AreOnce}
 use Rattle.naive_builder.proofs.Places.{place_of, IsWithin, within_puts, within_closes, transfer_at, end_at, plain_end_at}
+use Rattle.naive_builder.proofs.Numbers.{numbers_fit}
 use Rattle.naive_builder.proofs.Labels.{labels_in, position_of}
 
 -- the laws of transfers of shapes
@@ -39,7 +41,7 @@ pub within_before : (d : RawDescription) (m : Fixed) (bs : List Block) (s t : Em
 within_before d m bs _ _ _ (nothing s) i = i
 within_before d m bs _ _ _ (one_more s t u o os one rest) i = within_one d m bs s t o one (within_before d m bs t u os rest i)
 
-module _ (laws : AreLaws) (w : ℕ) (d : RawDescription) (m : Fixed) (checked : IsChecked w d) (c : Code) where
+module _ (laws : AreLaws) (w : ℕ) (d : RawDescription) (m : Fixed) (checked : IsChecked w d) (size : IsWordSize d.word) (memory : m.memory < 2 ^ d.word) (c : Code) where
   abbrev at : List Block → ℕ → Place
   at bs n = record { block = length bs; at = n }
 
@@ -53,6 +55,7 @@ module _ (laws : AreLaws) (w : ℕ) (d : RawDescription) (m : Fixed) (checked : 
         transfer = t.what;
         at = subst (λ (k : ℕ). item_at (routine_of c) (at bs k) ≡ Some (TransferItem t.what)) (sym q) here;
         does = laws.bodies w d m s.pattern s.at t checked h.1.operands h.1.transfer h.0;
+        numbers = numbers_fit d.word size m memory s.pattern s.at h.0 h.1.operands.number;
         behind = refl;
       } in
       let next : c.blocks ≡ bs ++ (record { label = l; body = (xs ++ t ∷ []) ++ (ts ++ more); end = e } ∷ rest) =

@@ -3,5 +3,6 @@ mod Covering
 mod Putting
 mod Places
 mod Labels
+mod Numbers
 mod Built
 mod Operations

@@ -68,7 +68,7 @@ module _ (d : RawDescription) (m : Fixed) where
       All-push (λ (b : Block). All Holds (transfers_of b)) s.blocks _ x.blocks (All-append Holds s.body (end_transfers Return) x.body (All-nil Holds))
 
 pub built_does_operations : AreLaws → FinishedDoesOperations
-built_does_operations laws w d m label os s c checked h once is =
+built_does_operations laws w d m label os s c checked size memory h once is =
     let labels : labels_in c.blocks ≡ label ∷ opened os = ap (λ (bs : List Block). labels_in bs) is ∙ labels_of d m (begun label) s os h in
     let all_once = subst (λ (ls : List ℕ). AreOnce ls) (sym labels) once in
     let within = subst (λ (bs : List Block). IsWithin bs s) (sym is) (within_finished s) in
@@ -76,7 +76,7 @@ built_does_operations laws w d m label os s c checked h once is =
     let holds = subst (λ (bs : List Block). AllHold d m bs) (sym is) (finished_holds d m s (all_hold d m (begun label) s os h nothing_yet)) in
     record {
       last = place_of s;
-      stands = all_stands laws w d m checked c (begun label) s os all_once h within;
+      stands = all_stands laws w d m checked size memory c (begun label) s os all_once h within;
       returns = end_at c s.blocks s.label [] s.body Return is;
       labels = labels;
       realised = All-weaker (λ (b : Block). All (Holds d m) (transfers_of b)) (λ (b : Block). All (IsRealised d) (transfers_of b))

@@ -1,5 +1,6 @@
 -- Code that is finished.
-use Rattle.std.specs.Prelude.{◌≡◌, ℕ, ◌+◌, ◌≤◌, ◌==◌, if◌then◌else◌, List, [], ◌∷◌, ◌++◌, map, Some, All}
+use Rattle.std.specs.Prelude.{◌≡◌, ℕ, ◌+◌, ◌^◌, ◌≤◌, ◌<◌, ◌==◌, if◌then◌else◌, List, [], ◌∷◌, ◌++◌, map, Some, All}
+use Rattle.rtl_word.specs.Words.{IsWordSize}
 use Rattle.md_rows.specs.declared.description.RawDescription.{RawDescription}
 use Rattle.md_shapes.specs.Shapes.{Frame as Fixed}
 use Rattle.md_check.specs.Checking.{IsChecked}
@@ -37,8 +38,8 @@ pub record DoesOperations (d : RawDescription) (m : Fixed) (label : ℕ) (os : L
   pub realised : AreRealised d c
   pub elementary : All (λ b. All (IsElementary d) (transfers_of b)) c.blocks
 
--- what operations append to one empty block does them, once it is finished, where each label is opened once
+-- what operations append to one empty block does them, once it is finished, where each label is opened once and the memory is as long as a word says
 abbrev pub FinishedDoesOperations : Type 0
 FinishedDoesOperations =
-    (w : ℕ) (d : RawDescription) (m : Fixed) (label : ℕ) (os : List Op) (s : Emitted) (c : Code) → IsChecked w d → Appends d m (begun label) os s
-    → AreOnce (label ∷ opened os) → c.blocks ≡ finished s → DoesOperations d m label os c
+    (w : ℕ) (d : RawDescription) (m : Fixed) (label : ℕ) (os : List Op) (s : Emitted) (c : Code) → IsChecked w d → IsWordSize d.word → m.memory < 2 ^ d.word
+    → Appends d m (begun label) os s → AreOnce (label ∷ opened os) → c.blocks ≡ finished s → DoesOperations d m label os c

@@ -1,0 +1,4 @@
+pub mod Adding
+pub mod Gathering
+pub mod Keeping
+pub mod Values

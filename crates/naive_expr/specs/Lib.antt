@@ -1,0 +1,6 @@
+pub mod Seen
+pub mod Emitted
+pub mod Opened
+pub mod Sorts
+pub mod Operands
+pub mod Tables

@@ -14,7 +14,9 @@ ghost use Rattle.naive_expr.specs.Operands.{values_of};
 
 use crate::calls::{combine, operation_labels, push_call, push_input, push_output};
 use crate::emission::{Emitter, Jump};
-use crate::objects::{push_address, push_fetch, push_missing, push_narrow, push_object};
+use crate::objects::{
+    push_address, push_conversion, push_fetch, push_missing, push_narrow, push_object,
+};
 use crate::operations::{Op, Stop};
 use crate::operators::{
     Sort, begin_truth, decided, denied, end_truth, push_branch, push_computation, push_step,
@@ -88,8 +90,7 @@ pub fn expand_value(
         TypedExpr::Unary(_, o, a) => unary(alloc, site, out, *o, a.get(), depth),
         TypedExpr::Convert(head, a) => {
             let value = expand_value(alloc, site, out, a.get(), depth)?;
-            let spare = out.fresh(&[depth + 1])?;
-            push_narrow(out, head.of, value, spare)?;
+            push_conversion(out, head.of, value, depth)?;
             Ok(value)
         }
         TypedExpr::Comma(_, a, b) => {

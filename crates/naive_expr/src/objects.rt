@@ -1,7 +1,7 @@
 //! What reads objects, and what assigns to them.
 
 ghost use Rattle.std.specs.Prelude.{◌≡◌, ◌+◌, ◌<◌, ◌^◌, [], ◌∷◌, IfOk, OnOk};
-ghost use Rattle.naive_code.specs.Expressions.{addressed, base_ops, fetched, got_from, missing_value, narrowed, put_at, put_into, read_object, scaled};
+ghost use Rattle.naive_code.specs.Expressions.{addressed, base_ops, fetched, got_from, missing_value, narrowed, put_at, put_into, read_object, scaled, spare_count, spare_depths};
 ghost use Rattle.naive_expr.specs.Seen.{base_of, storage_of};
 ghost use Rattle.naive_expr.specs.Emitted.{Adds, Brings};
 
@@ -104,6 +104,29 @@ pub(crate) fn push_narrow(
     match of {
         CType::Schar => out.emit(Op::Extend(value, spare)),
         CType::Uchar => push_low_byte(out, value, spare),
+        _ => Ok(()),
+    }
+}
+
+/// A conversion (C11 6.3.1.3). It takes a temporary where it changes a value.
+pub(crate) fn push_conversion(
+    out: &mut Emitter,
+    of: CType,
+    value: u16,
+    depth: u16,
+) -> Result<(), NoMemory>
+    requires { depth + 1 < 2 ^ 16 }
+    ensures { OnOk result (Adds out.old out.new (narrowed of value out.old.next_temp) (spare_depths of depth) (spare_count of) 0) }
+{
+    match of {
+        CType::Schar => {
+            let spare = out.fresh(&[depth + 1])?;
+            out.emit(Op::Extend(value, spare))
+        }
+        CType::Uchar => {
+            let spare = out.fresh(&[depth + 1])?;
+            push_low_byte(out, value, spare)
+        }
         _ => Ok(()),
     }
 }

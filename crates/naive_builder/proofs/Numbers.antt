@@ -1,5 +1,5 @@
 -- The numbers of the transfer of a shape inside a block are words.
-use Rattle.std.proofs.Common.{◌≡◌, inl, inr, ℕ, ◌+◌, ◌-◌, ◌*◌, ◌/◌, ◌^◌, ◌<◌, false, refl, subst, sym, arith}
+use Rattle.std.proofs.Common.{◌≡◌, inl, inr, ℕ, ◌+◌, ◌-◌, ◌*◌, ◌/◌, ◌^◌, ◌<◌, ◌≤◌, false, refl, subst, sym, arith}
 use Rattle.std.specs.Prelude.{All}
 use Rattle.rtl_word.specs.Words.{IsWordSize}
 use Rattle.rtl_word.proofs.Below.{by_size}

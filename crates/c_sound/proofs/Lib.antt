@@ -1,9 +1,9 @@
 mod Outcomes
-mod Fine
+pub mod Fine
 mod Expressions
 mod Statements
 mod Runs
-mod Nodes
-mod Judged
-mod Walked
-mod Programs
+pub mod Nodes
+pub mod Judged
+pub mod Walked
+pub mod Programs

@@ -49,19 +49,19 @@ use Rattle.c_sound.proofs.Walked.{Begins, same, further, next_in, list_good}
 
 -- ---- objects of the file
 
-abbrev objects : List Static → List Object
+abbrev pub objects : List Static → List Object
 objects ss = map (λ s. s.object) ss
 
-object_at : (ss : List Static) (x : ℕ) → object_of (slice_get ss x) ≡ slice_get (objects ss) x
+pub object_at : (ss : List Static) (x : ℕ) → object_of (slice_get ss x) ≡ slice_get (objects ss) x
 object_at [] x = refl
 object_at (s ∷ ss) zero = refl
 object_at (s ∷ ss) (suc x) = object_at ss x
 
-many : (ss : List Static) → length (objects ss) ≡ length ss
+pub many : (ss : List Static) → length (objects ss) ≡ length ss
 many [] = refl
 many (s ∷ ss) = ap suc (many ss)
 
-one_behind : (ss : List Static) (s : Static) → objects (ss ++ s ∷ []) ≡ objects ss ++ s.object ∷ []
+pub one_behind : (ss : List Static) (s : Static) → objects (ss ++ s ∷ []) ≡ objects ss ++ s.object ∷ []
 one_behind [] s = refl
 one_behind (x ∷ ss) s = ap (λ os. x.object ∷ os) (one_behind ss s)
 
@@ -79,19 +79,19 @@ given_objects : (ss : List Static) (k : Option ℕ) (vs : List ℕ) → objects 
 given_objects ss None vs = refl
 given_objects ss (Some k) vs = values_set ss k vs
 
-initialised_objects : (f : p.File) (i : Initialiser) (k : Option ℕ) (vs : List ℕ) → objects (p.with_given f i k vs).statics ≡ objects f.statics
+pub initialised_objects : (f : p.File) (i : Initialiser) (k : Option ℕ) (vs : List ℕ) → objects (p.with_given f i k vs).statics ≡ objects f.statics
 initialised_objects f initialiser.Absent k vs = refl
 initialised_objects f (initialiser.Value e) k vs = given_objects f.statics k vs
 initialised_objects f (initialiser.List at es b) k vs = given_objects f.statics k vs
 
-initialised_names : (f : p.File) (i : Initialiser) (k : Option ℕ) (vs : List ℕ) → (p.with_given f i k vs).names ≡ f.names
+pub initialised_names : (f : p.File) (i : Initialiser) (k : Option ℕ) (vs : List ℕ) → (p.with_given f i k vs).names ≡ f.names
 initialised_names f initialiser.Absent k vs = refl
 initialised_names f (initialiser.Value e) k vs = refl
 initialised_names f (initialiser.List at es b) k vs = refl
 
 -- ---- the functions of the file
 
-abbrev count : List Heading → ℕ
+abbrev pub count : List Heading → ℕ
 count [] = 0
 count (h ∷ hs) = if h.defines then suc (count hs) else count hs
 
@@ -127,17 +127,17 @@ filled : (ts : List CType) → same_types ts (type.Int ∷ []) ≡ true → is_f
 filled [] e = no e
 filled (t ∷ ts) e = refl
 
-unforbidden : (a b : Bool) → (a || b) ≡ false → b ≡ false
+pub unforbidden : (a b : Bool) → (a || b) ≡ false → b ≡ false
 unforbidden true b e = no (sym e)
 unforbidden false b e = e
 
-negated : (a b c : Bool) → (a && (b || not c)) ≡ false → a ≡ true → c ≡ true
+pub negated : (a b c : Bool) → (a && (b || not c)) ≡ false → a ≡ true → c ≡ true
 negated true true c e i = no (sym e)
 negated true false true e i = refl
 negated true false false e i = no (sym e)
 negated false b c e i = no i
 
-is_not : (b : Bool) (rule : ℕ) (at : At) → clean (broken_if b rule at) ≡ true → b ≡ false
+pub is_not : (b : Bool) (rule : ℕ) (at : At) → clean (broken_if b rule at) ≡ true → b ≡ false
 is_not true rule at e = no e
 is_not false rule at e = refl
 
@@ -161,7 +161,7 @@ module _ (n : ℕ) (first : List ℕ → Option ℕ) (below : (name : List ℕ) 
   signatures_callable [] h = tt
   signatures_callable (x ∷ hs) h = (signature_callable x h.0, signatures_callable hs h.1)
 
-made_keeps : {A B : Type 0} (made : A → B) (q : B → Bool) (o : Option A) → ((us : A) → o ≡ Some us → q (made us) ≡ true) → Kept q (one made o)
+pub made_keeps : {A B : Type 0} (made : A → B) (q : B → Bool) (o : Option A) → ((us : A) → o ≡ Some us → q (made us) ≡ true) → Kept q (one made o)
 made_keeps made q None f = tt
 made_keeps made q (Some us) f = f us refl
 
@@ -391,16 +391,16 @@ module _ (first : List ℕ → Option ℕ) (ss : List Signature) (w : ℕ) where
 
 -- ---- the whole
 
-clean_of : (f : Faults) → ((rule : ℕ) (at : At) → Breaks f rule at → ⊥) → clean f ≡ true
+pub clean_of : (f : Faults) → ((rule : ℕ) (at : At) → Breaks f rule at → ⊥) → clean f ≡ true
 clean_of sound h = refl
 clean_of (broken rule at) h = absurd (h rule at (refl, refl))
 clean_of (f also g) h = both (clean f) (clean g) (clean_of f (λ rule at b. h rule at (inl b))) (clean_of g (λ rule at b. h rule at (inr b)))
 
-denied : (b : Bool) → not b ≡ false → b ≡ true
+pub denied : (b : Bool) → not b ≡ false → b ≡ true
 denied true e = refl
 denied false e = no (sym e)
 
-abbrev Is_nothing : Option Typed → Type 0
+abbrev pub Is_nothing : Option Typed → Type 0
 Is_nothing None = ⊤
 Is_nothing (Some t) = ⊥
 

@@ -62,7 +62,7 @@ pub kept_keeps : {A : Type 0} (p : A → Bool) (b : Bool) (o : Option A) → Kep
 kept_keeps p true o h = h
 kept_keeps p false o h = tt
 
-anything : (o : Option ℕ) → Kept (λ m. true) o
+pub anything : (o : Option ℕ) → Kept (λ m. true) o
 anything None = tt
 anything (Some m) = refl
 

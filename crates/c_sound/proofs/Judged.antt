@@ -60,7 +60,7 @@ pub unless_keeps : {A : Type 0} (p : A → Bool) (b : Bool) (o : Option A) → K
 unless_keeps p true o h = tt
 unless_keeps p false o h = h
 
-pub proper_keeps : {A : Type 0} (p : A → Bool) (r : Option ℕ) (o : Option A) → Kept p o → Kept p (if_proper r o)
+proper_keeps : {A : Type 0} (p : A → Bool) (r : Option ℕ) (o : Option A) → Kept p o → Kept p (if_proper r o)
 proper_keeps p None o h = h
 proper_keeps p (Some rule) o h = tt
 
@@ -70,7 +70,7 @@ over a b h = grind (arith, nat_tests, h)
 not_none : (n : ℕ) → (suc n == 0) ≡ true → ⊥
 not_none n e = grind (arith, nat_tests, e)
 
-pub last_word : (w : ℕ) → 2 ^ w - 1 < 2 ^ w
+last_word : (w : ℕ) → 2 ^ w - 1 < 2 ^ w
 last_word w = omega (arith, pow_pos w)
 
 abbrev pub known_by : Within → (Variable → Kind) → ℕ → Known

@@ -1,9 +1,9 @@
 mod Outcomes
-pub mod Fine
+mod Fine
 mod Expressions
 mod Statements
 mod Runs
-pub mod Nodes
+mod Nodes
 pub mod Judged
 pub mod Walked
 pub mod Programs

@@ -91,7 +91,7 @@ initialised_names f (initialiser.List at es b) k vs = refl
 
 -- ---- the functions of the file
 
-abbrev pub count : List Heading → ℕ
+abbrev count : List Heading → ℕ
 count [] = 0
 count (h ∷ hs) = if h.defines then suc (count hs) else count hs
 
@@ -127,7 +127,7 @@ filled : (ts : List CType) → same_types ts (type.Int ∷ []) ≡ true → is_f
 filled [] e = no e
 filled (t ∷ ts) e = refl
 
-pub unforbidden : (a b : Bool) → (a || b) ≡ false → b ≡ false
+unforbidden : (a b : Bool) → (a || b) ≡ false → b ≡ false
 unforbidden true b e = no (sym e)
 unforbidden false b e = e
 

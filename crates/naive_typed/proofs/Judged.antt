@@ -1,8 +1,11 @@
 -- The typed tree of an expression is sound, where its names have the kinds that they stand for and its functions the types that they are called with.
-use Rattle.std.proofs.Common.{◌≡◌, ℕ, zero, suc, ◌+◌, ◌-◌, ◌%◌, ◌^◌, ◌==◌, nat_lt, Bool, true, false, ◌&&◌, ◌||◌, not, if◌then◌else◌, Option, Some, None, List, [], ◌∷◌, ◌++◌, map, length, slice_get, refl, sym, ap, ◌∙◌, subst, arith}
+use Rattle.std.proofs.Common.{◌≡◌, ℕ, zero, suc, ◌+◌, ◌-◌, ◌%◌, ◌^◌, ◌<◌, ◌==◌, nat_lt, Bool, true, false, ◌&&◌, ◌||◌, not, if◌then◌else◌, Option, Some, None, List, [], ◌∷◌, ◌++◌, map, length, slice_get, refl, sym, ap, ◌∙◌, subst, arith}
 use Rattle.std.specs.Prelude.{⊤}
 use Rattle.std.specs.Str.{bytes_eq}
+use Rattle.std.proofs.lemmas.Bool.{and_from as both}
 use Rattle.std.proofs.lemmas.Bool.Decides.{nat_tests}
+use Rattle.std.proofs.lemmas.Nat.{pow_pos, mod_below}
+use Rattle.std.proofs.Math.Nat.{pow-suc, mod-eq_of_lt}
 use Rattle.rtl_word.specs.Words.{word_of_signed}
 use Rattle.c_tree.proofs.ExprFolds.{With, expr_keeps}
 use Rattle.c_tree.specs.declared.token.At.{At}
@@ -33,11 +36,10 @@ use Rattle.c_typing.specs.Scopes.{Entry, or_else, meaning}
 use Rattle.c_typing.specs.Types.{head, same_type, converted, type_of_words, promoted, usual, usual_promoted, is_logical, is_relation, is_shift, is_not, binary_type, unary_type}
 use Rattle.c_typing.specs.Expressions as typing
 use Rattle.c_typing.specs.Expressions.{Within, Setting, Judged, judge, used, assigned, unless, if_proper, one, is_void, is_no_place, is_macro, meaning_at, misuse, wants, undefined, argument, argument_of, arguments, all_sound, params_of, signature_of, call_to, call_of, call_tree, object_tree, element_tree, number, number_type, comma_tree, assign_tree, compound_tree, conditional_tree, binary_tree, cast_tree, unary_tree, before_tree, after_tree}
+use Rattle.c_typing.proofs.Trees.{no, left_of, right_of}
 use Rattle.c_meaning.specs.Operators.{as_type}
 use Rattle.c_meaning.specs.Expressions.{Kind, scalar, array}
 use Rattle.c_meaning.specs.Run.{kind_in}
-use Rattle.c_sound.proofs.Fine.{no, left_of, right_of}
-use Rattle.c_sound.proofs.Nodes.{both}
 use Rattle.c_sound.proofs.Judged.{Kept, one_keeps, two_keeps, three_keeps, unless_keeps}
 use Rattle.naive_run.specs.Sound.{checked, alike, is_word, all_fit, fits_function, are_words, fits_call, has_type}
 use Rattle.naive_typed.proofs.Nodes.{alike_is, ok, of_is, constant_ok, object_ok, element_ok, assign_ok, compound_ok, before_ok, after_ok, binary_ok, unary_ok, convert_ok, comma_ok, conditional_ok, call_ok}
@@ -146,22 +148,44 @@ never_less n e = grind (arith, nat_tests, e)
 one_less : (m n : ℕ) → (suc m == suc n) ≡ true → (m == n) ≡ true
 one_less m n e = grind (arith, nat_tests, e)
 
-word_constant : (w v : ℕ) (u : CType) → is_word u ≡ true → (as_type w u v == v) ≡ true
-word_constant w v type.Schar h = no h
-word_constant w v type.Uchar h = no h
-word_constant w v type.Int h = same_number v
-word_constant w v type.Unsigned h = same_number v
-word_constant w v type.Void h = no h
+below : (a b : ℕ) → nat_lt a b ≡ true → a < b
+below a b e = grind (arith, nat_tests, e)
 
-chosen_type : (b : Bool) (u : CType) (o : Option CType) → is_word u ≡ true → Kept is_word o → Kept is_word (if b then Some u else o)
-chosen_type true u o h i = h
-chosen_type false u o h i = i
+below_half : (w v : ℕ) → v < 2 ^ (w - 1) → v < 2 ^ w
+below_half zero v h = h
+below_half (suc n) v h =
+    let less : suc n - 1 ≡ n = omega arith in
+    let small : v < 2 ^ n = subst (λ (k : ℕ). v < 2 ^ k) less h in
+    omega (arith, pow-suc 2 n, small)
 
-number_word : (w v : ℕ) (d u : Bool) → Kept is_word (number_type w v d u)
-number_word w v true true = chosen_type _ type.Unsigned None refl tt
-number_word w v false true = chosen_type _ type.Unsigned None refl tt
-number_word w v true false = chosen_type _ type.Int None refl tt
-number_word w v false false = chosen_type _ type.Int _ refl (chosen_type _ type.Unsigned None refl tt)
+is_itself : (w v : ℕ) → v < 2 ^ w → (v % 2 ^ w == v) ≡ true
+is_itself w v h = ap (λ (n : ℕ). n == v) (mod-eq_of_lt h) ∙ same_number v
+
+word_constant : (w v : ℕ) (u : CType) → is_word u ≡ true → v < 2 ^ w → (as_type w u v == v) ≡ true
+word_constant w v type.Schar h i = no h
+word_constant w v type.Uchar h i = no h
+word_constant w v type.Int h i = is_itself w v i
+word_constant w v type.Unsigned h i = is_itself w v i
+word_constant w v type.Void h i = no h
+
+-- a number's type has it as a value
+abbrev Fits : ℕ → ℕ → Option CType → Type 0
+Fits w v None = ⊤
+Fits w v (Some u) = (is_word u ≡ true) × (v < 2 ^ w)
+
+whole_fits : (w v : ℕ) (b : Bool) → nat_lt v (2 ^ w) ≡ b → Fits w v (if b then Some type.Unsigned else None)
+whole_fits w v true e = (refl, below v (2 ^ w) e)
+whole_fits w v false e = tt
+
+half_fits : (w v : ℕ) (o : Option CType) → Fits w v o → (b : Bool) → nat_lt v (2 ^ (w - 1)) ≡ b → Fits w v (if b then Some type.Int else o)
+half_fits w v o h true e = (refl, below_half w v (below v (2 ^ (w - 1)) e))
+half_fits w v o h false e = h
+
+number_fits : (w v : ℕ) (d u : Bool) → Fits w v (number_type w v d u)
+number_fits w v true true = whole_fits w v _ refl
+number_fits w v false true = whole_fits w v _ refl
+number_fits w v true false = half_fits w v None tt _ refl
+number_fits w v false false = half_fits w v (if nat_lt v (2 ^ w) then Some type.Unsigned else None) (whole_fits w v _ refl) _ refl
 
 -- ---- names
 
@@ -201,6 +225,10 @@ module _ (kind : Variable → Kind) where
 
 abbrev pub elements : List Object → List CType
 elements os = map (λ o. o.element) os
+
+pub one_each : (os : List Object) → length (elements os) ≡ length os
+one_each [] = refl
+one_each (o ∷ os) = ap suc (one_each os)
 
 abbrev pub Is_function : CType → List CType → Option Function → Type 0
 Is_function u ts None = ⊥
@@ -271,7 +299,7 @@ module _ (g : Within) (t : Typed) (f : Function) (plain : not (is_helper f.name)
   object_keeps at (Some (means.Scalar v u)) h = object_ok g.bits t f (head u at) v h
   object_keeps at (Some (means.Array v u m)) h = tt
   object_keeps at (Some (means.Function i)) h = tt
-  object_keeps at (Some means.EndOfFile) h = constant_ok g.bits t f (head type.Int at) (2 ^ g.bits - 1) (same_number _)
+  object_keeps at (Some means.EndOfFile) h = constant_ok g.bits t f (head type.Int at) (2 ^ g.bits - 1) (is_itself g.bits (2 ^ g.bits - 1) (omega (arith, pow_pos g.bits)))
 
   element_keeps : (at : At) (m : Option Meaning) → Meant kind m → (i : Option TypedExpr) → Kept valued i → Kept sound (element_tree at m i)
   element_keeps at None h i j = tt
@@ -307,10 +335,6 @@ module _ (g : Within) (t : Typed) (f : Function) (plain : not (is_helper f.name)
       one_fits (slice_get ts i) (used a).seen.tree (arguments ts (suc i) as_) o os (ap (slice_get ts) here ∙ at 0) (used_keeps a h.0) (left_of _ _ k)
           (all_given ts (suc i) os (λ j. ap (slice_get ts) (next j) ∙ at (suc j)) as_ h.1 (one_less (length os) (length as_) e) (right_of _ _ k))
 
-  many : (os : List Object) → length (elements os) ≡ length os
-  many [] = refl
-  many (o ∷ os) = ap suc (many os)
-
   from_zero : (j : ℕ) → 0 + j ≡ j
   from_zero j = omega arith
 
@@ -319,7 +343,7 @@ module _ (g : Within) (t : Typed) (f : Function) (plain : not (is_helper f.name)
   function_fits u ts as_ gs e k None h = absurd h
   function_fits u ts as_ gs e k (Some x) h = both _ _ (alike_is u x.result (sym h.0))
       (all_given ts 0 x.params (λ j. ap (slice_get ts) (from_zero j) ∙ ap (λ us. slice_get us j) (sym h.1)) as_ gs
-          (ap (λ n. n == length as_) (sym (many x.params) ∙ ap length h.1) ∙ e) k)
+          (ap (λ n. n == length as_) (sym (one_each x.params) ∙ ap length h.1) ∙ e) k)
 
   no_words : (as_ : List Judged) → (0 == length as_) ≡ true → (ts : List CType) → are_words 0 (map (checked g.bits t f) (arguments ts 0 as_)) ≡ true
   no_words [] e ts = refl
@@ -368,9 +392,9 @@ module _ (g : Within) (t : Typed) (f : Function) (plain : not (is_helper f.name)
   call_keeps ss h at (Some (means.Function i)) as_ gs = to_signature at as_ gs (slice_get ss i) (called_at t ss h i)
   call_keeps ss h at (Some means.EndOfFile) as_ gs = tt
 
-  number_keeps : (at : At) (v : ℕ) (u : Option CType) → Kept is_word u → Good (number at v u)
+  number_keeps : (at : At) (v : ℕ) (u : Option CType) → Fits g.bits v u → Good (number at v u)
   number_keeps at v None h = record { keeps = tt }
-  number_keeps at v (Some u) h = record { keeps = constant_ok g.bits t f (head u at) v (word_constant g.bits v u h) }
+  number_keeps at v (Some u) h = record { keeps = constant_ok g.bits t f (head u at) v (word_constant g.bits v u h.0 h.1) }
 
   -- ---- all
 
@@ -389,8 +413,8 @@ module _ (g : Within) (t : Typed) (f : Function) (plain : not (is_helper f.name)
     step (Name at m) = record { keeps = object_keeps at (meaning_at c m) (meant m) }
     step (Element at m a) = record { keeps = element_keeps at (meaning_at c m) (meant m) (used a.0).seen.tree (used_keeps a.0 a.1) }
     step (Call at m as_) = record { keeps = call_keeps g.signatures calls at (meaning_at c m) (map (λ e. e.0) as_) (goods_of as_) }
-    step (Number at v d u) = number_keeps at v (number_type g.bits v d u) (number_word g.bits v d u)
-    step (Character at v) = record { keeps = constant_ok g.bits t f (head type.Int at) (word_of_signed g.bits v % 2 ^ g.bits) (same_number _) }
+    step (Number at v d u) = number_keeps at v (number_type g.bits v d u) (number_fits g.bits v d u)
+    step (Character at v) = record { keeps = constant_ok g.bits t f (head type.Int at) (word_of_signed g.bits v % 2 ^ g.bits) (is_itself g.bits _ (mod_below _ _ (pow_pos g.bits))) }
     step (Comma at a b) = record { keeps = two_keeps sound sound sound (comma_tree at) (λ x y h i. comma_ok g.bits t f _ x y refl h i) a.0.seen.tree b.0.seen.tree a.1.keeps b.1.keeps }
     step (Assign at a assign.Plain b) = record {
       keeps = two_keeps valued valued sound (assign_tree at) (λ x y h i. assign_ok g.bits t f _ x _ refl (converted_of _ y) (left_of _ _ h) (converted_ok _ y (left_of _ _ i)))

@@ -1,3 +1,5 @@
 mod Nodes
 mod Judged
 mod Walked
+mod Headings
+mod Programs

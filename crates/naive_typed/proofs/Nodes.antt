@@ -1,6 +1,7 @@
 -- A node over sound parts of the types that it wants is sound.
 use Rattle.std.proofs.Common.{◌≡◌, ℕ, ◌==◌, Bool, true, false, ◌&&◌, ◌||◌, not, Option, Some, None, List, [], ◌∷◌, map, length, slice_get, nat_le, refl, sym, ap, ◌∙◌, subst}
 use Rattle.std.specs.List.{list_all}
+use Rattle.std.proofs.lemmas.Bool.{and_from as both}
 use denote.Hole.Carrier
 use Rattle.c_tree.specs.declared.token.At.{At}
 use Rattle.c_tree.specs.declared.types.CType.{CType}
@@ -31,8 +32,7 @@ use Rattle.c_tree.specs.Heads.{head_of}
 use Rattle.c_meaning.specs.Operators.{as_type}
 use Rattle.c_meaning.specs.Expressions.{Kind, scalar, array, type_in}
 use Rattle.c_meaning.specs.Run.{kind_in}
-use Rattle.c_sound.proofs.Fine.{left_of as left_part, right_of as right_part}
-use Rattle.c_sound.proofs.Nodes.{both}
+use Rattle.c_typing.proofs.Trees.{left_of as left_part, right_of as right_part}
 use Rattle.naive_run.specs.Sound.{Checked, Left, checked, checked_by, type_of, alike, is_word, is_array, fits_call, fit_locals, fits_start, fits_return, is_sound_or_absent, left_by, left_of, all_left, simple, both as joint, with, in_loop, in_switch}
 
 pub alike_same : (a : CType) → alike a a ≡ true
@@ -58,22 +58,41 @@ either_implies : (x y b : Bool) → implies x b ≡ true → implies y b ≡ tru
 either_implies true y b h i = h
 either_implies false y b h i = i
 
-pub simply : (b c x : Bool) → x ≡ true → leaves b c (simple x) ≡ true
-simply b c x h = both _ _ (both _ _ h refl) refl
+sound_of : (b c : Bool) (l : Left) → leaves b c l ≡ true → l.sound ≡ true
+sound_of b c l h = left_part l.sound (implies l.breaks b) (left_part (l.sound && implies l.breaks b) (implies l.continues c) h)
+
+breaks_of : (b c : Bool) (l : Left) → leaves b c l ≡ true → implies l.breaks b ≡ true
+breaks_of b c l h = right_part l.sound (implies l.breaks b) (left_part (l.sound && implies l.breaks b) (implies l.continues c) h)
+
+continues_of : (b c : Bool) (l : Left) → leaves b c l ≡ true → implies l.continues c ≡ true
+continues_of b c l h = right_part (l.sound && implies l.breaks b) (implies l.continues c) h
+
+leaves_by : (b c : Bool) (l : Left) → l.sound ≡ true → implies l.breaks b ≡ true → implies l.continues c ≡ true → leaves b c l ≡ true
+leaves_by b c l h i j = both (l.sound && implies l.breaks b) (implies l.continues c) (both l.sound (implies l.breaks b) h i) j
+
+simply : (b c x : Bool) → x ≡ true → leaves b c (simple x) ≡ true
+simply b c x h = leaves_by b c (simple x) h refl refl
 
 pub both_leave : (b c : Bool) (x y : Left) → leaves b c x ≡ true → leaves b c y ≡ true → leaves b c (joint x y) ≡ true
-both_leave b c x y h i = both _ _ (both _ _ (both _ _ (left_part _ _ (left_part _ _ h)) (left_part _ _ (left_part _ _ i)))
-    (either_implies x.breaks y.breaks b (right_part _ _ (left_part _ _ h)) (right_part _ _ (left_part _ _ i))))
-    (either_implies x.continues y.continues c (right_part _ _ h) (right_part _ _ i))
+both_leave b c x y h i = leaves_by b c (joint x y) (both x.sound y.sound (sound_of b c x h) (sound_of b c y i))
+    (either_implies x.breaks y.breaks b (breaks_of b c x h) (breaks_of b c y i)) (either_implies x.continues y.continues c (continues_of b c x h) (continues_of b c y i))
 
 with_leaves : (b c x : Bool) (l : Left) → x ≡ true → leaves b c l ≡ true → leaves b c (with x l) ≡ true
-with_leaves b c x l h i = both _ _ (both _ _ (both _ _ h (left_part _ _ (left_part _ _ i))) (right_part _ _ (left_part _ _ i))) (right_part _ _ i)
+with_leaves b c x l h i = leaves_by b c (with x l) (both x l.sound h (sound_of b c l i)) (breaks_of b c l i) (continues_of b c l i)
 
 loop_leaves : (b c : Bool) (l : Left) → leaves true true l ≡ true → leaves b c (in_loop l) ≡ true
-loop_leaves b c l h = simply b c _ (left_part _ _ (left_part _ _ h))
+loop_leaves b c l h = leaves_by b c (in_loop l) (sound_of true true l h) refl refl
 
-within_leaves : (b c : Bool) (l : Left) → leaves true c l ≡ true → leaves b c (in_switch l) ≡ true
-within_leaves b c l h = both _ _ (both _ _ (left_part _ _ (left_part _ _ h)) refl) (right_part _ _ h)
+switch_leaves_by : (b c : Bool) (l : Left) → leaves true c l ≡ true → leaves b c (in_switch l) ≡ true
+switch_leaves_by b c l h = leaves_by b c (in_switch l) (sound_of true c l h) refl (continues_of true c l h)
+
+never : (x : Bool) → implies x false ≡ true → not x ≡ true
+never true h = h
+never false h = refl
+
+-- a body is left by its end and by returns alone
+pub by_ends : (l : Left) → leaves false false l ≡ true → (l.sound && not l.breaks && not l.continues) ≡ true
+by_ends l h = both (l.sound && not l.breaks) (not l.continues) (both l.sound (not l.breaks) (sound_of false false l h) (never l.breaks (breaks_of false false l h))) (never l.continues (continues_of false false l h))
 
 module _ (w : ℕ) (t : Typed) (f : Function) where
   abbrev pub ok : TypedExpr → Bool
@@ -197,28 +216,28 @@ module _ (w : ℕ) (t : Typed) (f : Function) where
 
     pub if_leaves : (at : At) (e : TypedExpr) (a : Stat) → ok e ≡ true → leaves b c (left a) ≡ true → leaves b c (left (stat.If at e a None)) ≡ true
     unfolding roll-Stat denote.Hole.Carrier.roll
-    if_leaves at e a h i = by_does b c (s.If at e a None) (with_leaves b c _ _ h (both_leave b c (left a) (simple true) i refl))
+    if_leaves at e a h i = by_does b c (s.If at e a None) (with_leaves b c (ok e) (joint (left a) (simple true)) h (both_leave b c (left a) (simple true) i refl))
 
     pub else_leaves : (at : At) (e : TypedExpr) (x y : Stat) → ok e ≡ true → leaves b c (left x) ≡ true → leaves b c (left y) ≡ true → leaves b c (left (stat.If at e x (Some y))) ≡ true
     unfolding roll-Stat denote.Hole.Carrier.roll
-    else_leaves at e x y h i j = by_does b c (s.If at e x (Some y)) (with_leaves b c _ _ h (both_leave b c (left x) (left y) i j))
+    else_leaves at e x y h i j = by_does b c (s.If at e x (Some y)) (with_leaves b c (ok e) (joint (left x) (left y)) h (both_leave b c (left x) (left y) i j))
 
     pub while_leaves : (at : At) (e : TypedExpr) (a : Stat) → ok e ≡ true → leaves true true (left a) ≡ true → leaves b c (left (stat.While at e a)) ≡ true
     unfolding roll-Stat denote.Hole.Carrier.roll
-    while_leaves at e a h i = by_does b c (s.While at e a) (with_leaves b c _ _ h (loop_leaves b c (left a) i))
+    while_leaves at e a h i = by_does b c (s.While at e a) (with_leaves b c (ok e) (in_loop (left a)) h (loop_leaves b c (left a) i))
 
     pub do_leaves : (at : At) (e : TypedExpr) (a : Stat) → ok e ≡ true → leaves true true (left a) ≡ true → leaves b c (left (stat.DoWhile at a e)) ≡ true
     unfolding roll-Stat denote.Hole.Carrier.roll
-    do_leaves at e a h i = by_does b c (s.DoWhile at a e) (with_leaves b c _ _ h (loop_leaves b c (left a) i))
+    do_leaves at e a h i = by_does b c (s.DoWhile at a e) (with_leaves b c (ok e) (in_loop (left a)) h (loop_leaves b c (left a) i))
 
     pub for_leaves : (at : At) (i : Start) (x y : Option TypedExpr) (a : Stat) → fits_start w t f i ≡ true → is_sound_or_absent w t f x ≡ true → is_sound_or_absent w t f y ≡ true
         → leaves true true (left a) ≡ true → leaves b c (left (stat.For at i x y a)) ≡ true
     unfolding roll-Stat denote.Hole.Carrier.roll
-    for_leaves at i x y a h j k l = by_does b c (s.For at i x y a) (with_leaves b c _ _ (both _ _ (both _ _ h j) k) (loop_leaves b c (left a) l))
+    for_leaves at i x y a h j k l = by_does b c (s.For at i x y a) (with_leaves b c _ (in_loop (left a)) (both _ _ (both _ _ h j) k) (loop_leaves b c (left a) l))
 
     pub switch_leaves : (at : At) (e : TypedExpr) (ss : List Stat) → ok e ≡ true → leaves true c (all_left (map left ss)) ≡ true → leaves b c (left (stat.Switch at e ss)) ≡ true
     unfolding roll-Stat denote.Hole.Carrier.roll
-    switch_leaves at e ss h i = by_does b c (s.Switch at e ss) (with_leaves b c _ _ h (within_leaves b c (all_left (map left ss)) i))
+    switch_leaves at e ss h i = by_does b c (s.Switch at e ss) (with_leaves b c (ok e) (in_switch (all_left (map left ss))) h (switch_leaves_by b c (all_left (map left ss)) i))
 
     pub case_leaves : (at : At) (v : ℕ) (a : Stat) → leaves b c (left a) ≡ true → leaves b c (left (stat.Case at v a)) ≡ true
     unfolding roll-Stat denote.Hole.Carrier.roll

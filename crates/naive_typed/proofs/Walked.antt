@@ -2,6 +2,7 @@
 use Rattle.std.proofs.Common.{◌≡◌, ℕ, zero, suc, ◌+◌, ◌≤◌, ◌==◌, nat_le, Bool, true, false, ◌&&◌, not, Option, Some, None, List, [], ◌∷◌, ◌++◌, map, length, slice_get, refl, sym, ap, subst, ◌∙◌, if◌then◌else◌, arith}
 use Rattle.std.specs.Prelude.{⊤}
 use Rattle.std.specs.List.{list_all}
+use Rattle.std.proofs.lemmas.Bool.{and_from as both}
 use Rattle.std.proofs.lemmas.Bool.Decides.{nat_tests}
 use Rattle.c_tree.proofs.ExprFolds.{With}
 use Rattle.c_tree.proofs.StatementFolds.{statement_keeps}
@@ -43,15 +44,13 @@ use Rattle.c_typing.specs.Types.{type_of_words, converted}
 use Rattle.c_typing.specs.Expressions.{Within, judge, one, two, together, unless, broken_if}
 use Rattle.c_typing.specs.Expressions as typing
 use Rattle.c_typing.specs.Statements as st
-use Rattle.c_typing.proofs.Trees.{has_tree}
+use Rattle.c_typing.proofs.Trees.{no, left_of, right_of, has_tree}
 use Rattle.c_meaning.specs.Expressions.{Kind}
 use Rattle.c_meaning.specs.Run.{kind_by, kind_of, kind_in, is_main}
-use Rattle.c_sound.proofs.Fine.{no, left_of, right_of}
-use Rattle.c_sound.proofs.Nodes.{both}
 use Rattle.c_sound.proofs.Judged.{Kept, one_keeps, two_keeps, three_keeps, unless_keeps}
 use Rattle.c_sound.proofs.Walked.{Begins, same, further, next_in, kept_keeps, joined_keeps, anything}
 use Rattle.naive_run.specs.Sound.{has_type, is_sound_or_absent, fits_init, fit_locals, fits_start, fits_return, left_of as left_in, all_left}
-use Rattle.naive_typed.proofs.Nodes.{ok, leaves, simply, both_leave, block_leaves, declare_leaves, evaluate_leaves, if_leaves, else_leaves, while_leaves, do_leaves, for_leaves, switch_leaves, case_leaves, default_leaves, break_leaves, continue_leaves, return_leaves}
+use Rattle.naive_typed.proofs.Nodes.{ok, leaves, both_leave, block_leaves, declare_leaves, evaluate_leaves, if_leaves, else_leaves, while_leaves, do_leaves, for_leaves, switch_leaves, case_leaves, default_leaves, break_leaves, continue_leaves, return_leaves}
 use Rattle.naive_typed.proofs.Judged.{Stands, Names, named_more, Signatures, valued, used_keeps, converted_ok, converted_has, judged_good}
 
 joined_more : {A : Type 0} (p : A → Bool) (q r : List A → Bool) → ((x : A) (xs : List A) → p x ≡ true → q xs ≡ true → r (x ∷ xs) ≡ true)

@@ -3,3 +3,4 @@ mod Judged
 mod Walked
 mod Headings
 mod Programs
+mod Names

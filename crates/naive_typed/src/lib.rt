@@ -3,4 +3,4 @@
 
 mod law;
 
-pub use law::typed_is_sound;
+pub use law::{typed_is_sound, typed_names_scalars};

@@ -1,5 +1,5 @@
 -- Functions and their headings: headings of one name have one type, and each definition makes the function of its number.
-use Rattle.std.proofs.Common.{◌≡◌, ℕ, zero, suc, ◌+◌, Bool, true, false, ◌&&◌, ◌||◌, not, if◌then◌else◌, Option, Some, None, List, [], ◌∷◌, ◌++◌, map, length, slice_get, codes, refl, sym, ap, ◌∙◌, subst, arith}
+use Rattle.std.proofs.Common.{◌≡◌, ℕ, zero, suc, ◌+◌, Bool, true, false, ◌||◌, if◌then◌else◌, Option, Some, None, List, [], ◌∷◌, ◌++◌, map, length, slice_get, codes, refl, sym, ap, ◌∙◌, subst, arith}
 use Rattle.std.specs.Prelude.{⊤}
 use Rattle.std.specs.Str.{bytes_eq}
 use Rattle.std.proofs.lemmas.Slice.Eq.{bytes_eq-Decides}
@@ -211,9 +211,14 @@ module _ (first : List ℕ → Option ℕ) (hs : List Heading) (w : ℕ) (names 
   headings_good f [] past e a c k = tt
   headings_good f (external.Include at ∷ xs) past e a c k =
       let one = begins past of_getchar (of_putchar ∷ headings xs) e in
-      let two = begins (past ++ of_getchar ∷ []) of_putchar (headings xs) one in
-      (getchar_good ss names, (putchar_good ss names, headings_good (p.with_include f) xs ((past ++ of_getchar ∷ []) ++ of_putchar ∷ []) two
-          (one_above (past ++ of_getchar ∷ []) of_putchar (suc f.above) (one_above past of_getchar f.above a)) c k))
+      let two = begins (past ++ of_getchar ∷ []) of_putchar (headings xs) one in (
+        getchar_good ss names,
+        (
+          putchar_good ss names,
+          headings_good (p.with_include f) xs ((past ++ of_getchar ∷ []) ++ of_putchar ∷ []) two
+              (one_above (past ++ of_getchar ∷ []) of_putchar (suc f.above) (one_above past of_getchar f.above a)) c k,
+        ),
+      )
   headings_good f (external.Declared (declaration.Objects at t is) ∷ xs) past e a c k =
       headings_good (p.static_items ss w f (type_of_words t) is).0 xs past e (a ∙ sym (items_stay ss w f (type_of_words t) is).above) (right_of _ _ c) k
   headings_good f (external.Declared (declaration.Function at r m ps) ∷ xs) past e a c k =

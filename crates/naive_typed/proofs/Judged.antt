@@ -41,7 +41,7 @@ use Rattle.c_meaning.specs.Operators.{as_type}
 use Rattle.c_meaning.specs.Expressions.{Kind, scalar, array}
 use Rattle.c_meaning.specs.Run.{kind_in}
 use Rattle.c_sound.proofs.Judged.{Kept, one_keeps, two_keeps, three_keeps, unless_keeps}
-use Rattle.naive_run.specs.Sound.{checked, alike, is_word, all_fit, fits_function, are_words, fits_call, has_type}
+use Rattle.naive_run.specs.Sound.{checked, is_word, all_fit, fits_function, are_words, fits_call, has_type}
 use Rattle.naive_typed.proofs.Nodes.{alike_is, ok, of_is, constant_ok, object_ok, element_ok, assign_ok, compound_ok, before_ok, after_ok, binary_ok, unary_ok, convert_ok, comma_ok, conditional_ok, call_ok}
 
 -- ---- types
@@ -333,7 +333,7 @@ module _ (g : Within) (t : Typed) (f : Function) (plain : not (is_helper f.name)
       let here : i ≡ i + 0 = omega arith in
       let next : (j : ℕ) → suc i + j ≡ i + suc j = λ j. omega arith in
       one_fits (slice_get ts i) (used a).seen.tree (arguments ts (suc i) as_) o os (ap (slice_get ts) here ∙ at 0) (used_keeps a h.0) (left_of _ _ k)
-          (all_given ts (suc i) os (λ j. ap (slice_get ts) (next j) ∙ at (suc j)) as_ h.1 (one_less (length os) (length as_) e) (right_of _ _ k))
+      (all_given ts (suc i) os (λ j. ap (slice_get ts) (next j) ∙ at (suc j)) as_ h.1 (one_less (length os) (length as_) e) (right_of _ _ k))
 
   from_zero : (j : ℕ) → 0 + j ≡ j
   from_zero j = omega arith
@@ -343,7 +343,7 @@ module _ (g : Within) (t : Typed) (f : Function) (plain : not (is_helper f.name)
   function_fits u ts as_ gs e k None h = absurd h
   function_fits u ts as_ gs e k (Some x) h = both _ _ (alike_is u x.result (sym h.0))
       (all_given ts 0 x.params (λ j. ap (slice_get ts) (from_zero j) ∙ ap (λ us. slice_get us j) (sym h.1)) as_ gs
-          (ap (λ n. n == length as_) (sym (one_each x.params) ∙ ap length h.1) ∙ e) k)
+      (ap (λ n. n == length as_) (sym (one_each x.params) ∙ ap length h.1) ∙ e) k)
 
   no_words : (as_ : List Judged) → (0 == length as_) ≡ true → (ts : List CType) → are_words 0 (map (checked g.bits t f) (arguments ts 0 as_)) ≡ true
   no_words [] e ts = refl

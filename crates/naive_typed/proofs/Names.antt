@@ -1,8 +1,7 @@
 -- A tree in which each name stands for an object of the kind as which it is used names no array but by its elements.
-use Rattle.std.proofs.Common.{◌≡◌, ℕ, Bool, true, false, ◌&&◌, not, Option, Some, None, List, [], ◌∷◌, map, refl}
+use Rattle.std.proofs.Common.{◌≡◌, ℕ, Bool, true, not, Option, Some, None, List, [], ◌∷◌, map, refl}
 use Rattle.std.specs.List.{list_all}
 use Rattle.std.proofs.lemmas.Bool.{and_from as both}
-use Rattle.rtl_word.specs.Words.{IsWordSize}
 use Rattle.c_tree.proofs.TypedFolds.{Both, expr_relates, stat_relates}
 use Rattle.c_tree.specs.declared.typed.TypedExpr.{TypedExpr}
 use Rattle.c_tree.specs.declared.typed.TypedExpr.TheOpen.{TypedExpr-F, Comma, Assign, Compound, Conditional, Binary, Unary, Before, After, Constant, Object, Element, Call, Convert}
@@ -20,10 +19,10 @@ use Rattle.c_tree.specs.declared.typed.Typed.{Typed}
 use Rattle.c_typing.proofs.Trees.{no, left_of, right_of}
 use Rattle.c_meaning.specs.Expressions.{Kind, missing, scalar, array}
 use Rattle.c_meaning.specs.Run.{kind_in}
-use Rattle.c_sound.specs.Sound.{Known, Checked, is_scalar, each, expression, is_sound, all_sound, maybe_sound, init_sound, locals_sound, start_sound, all, maybe, statement, body_sound, known_in, functions_sound}
+use Rattle.c_sound.specs.Sound.{Known, Checked, is_scalar, each, expression, is_sound, all_sound, maybe_sound, init_sound, locals_sound, start_sound, all, statement, body_sound, known_in, functions_sound}
 use Rattle.c_sound.proofs.Programs.{typed_is_meant}
 use Rattle.naive_run.specs.Sound.{is_array}
-use Rattle.naive_counts.specs.Names.{all_true, or_true, names_in, expression_names, option_names, list_names, init_names, locals_names, start_names, names_by, names_scalars}
+use Rattle.naive_counts.specs.Names.{all_true, names_in, expression_names, option_names, list_names, init_names, locals_names, start_names, names_by, names_scalars}
 use Rattle.naive_typed.specs.Laws.{TypedNamesScalars}
 
 single : (k : Kind) → is_scalar k ≡ true → not (is_array k) ≡ true

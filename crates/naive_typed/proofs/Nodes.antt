@@ -1,6 +1,5 @@
 -- A node over sound parts of the types that it wants is sound.
-use Rattle.std.proofs.Common.{◌≡◌, ℕ, ◌==◌, Bool, true, false, ◌&&◌, ◌||◌, not, Option, Some, None, List, [], ◌∷◌, map, length, slice_get, nat_le, refl, sym, ap, ◌∙◌, subst}
-use Rattle.std.specs.List.{list_all}
+use Rattle.std.proofs.Common.{◌≡◌, ℕ, ◌==◌, Bool, true, false, ◌&&◌, ◌||◌, not, Option, Some, None, List, map, refl, sym, ap, ◌∙◌, subst}
 use Rattle.std.proofs.lemmas.Bool.{and_from as both}
 use denote.Hole.Carrier
 use Rattle.c_tree.specs.declared.token.At.{At}
@@ -30,7 +29,7 @@ use Rattle.c_tree.specs.declared.typed.Function.{Function}
 use Rattle.c_tree.specs.declared.typed.Typed.{Typed}
 use Rattle.c_tree.specs.Heads.{head_of}
 use Rattle.c_meaning.specs.Operators.{as_type}
-use Rattle.c_meaning.specs.Expressions.{Kind, scalar, array, type_in}
+use Rattle.c_meaning.specs.Expressions.{scalar, array, type_in}
 use Rattle.c_meaning.specs.Run.{kind_in}
 use Rattle.c_typing.proofs.Trees.{left_of as left_part, right_of as right_part}
 use Rattle.naive_run.specs.Sound.{Checked, Left, checked, checked_by, type_of, alike, is_word, is_array, fits_call, fit_locals, fits_start, fits_return, is_sound_or_absent, left_by, left_of, all_left, simple, both as joint, with, in_loop, in_switch}

@@ -1,6 +1,5 @@
 -- The typed tree of a source that breaks no rule is sound.
-use Rattle.std.proofs.Common.{◌≡◌, ℕ, zero, suc, ◌+◌, nat_le, Bool, true, false, ◌&&◌, ◌||◌, not, if◌then◌else◌, Option, Some, None, List, [], ◌∷◌, ◌++◌, map, length, slice_get, inl, inr, codes, refl, sym, ap, ◌∙◌, subst, arith}
-use Rattle.std.specs.Prelude.{⊤}
+use Rattle.std.proofs.Common.{◌≡◌, ℕ, nat_le, Bool, true, false, ◌||◌, not, Option, Some, None, List, [], ◌∷◌, ◌++◌, map, length, slice_get, codes, refl, sym, ap, ◌∙◌, subst}
 use Rattle.std.specs.Str.{bytes_eq}
 use Rattle.std.specs.List.{list_all}
 use Rattle.std.specs.Option.{unwrap_or}
@@ -40,7 +39,7 @@ use Rattle.c_typing.specs.Program as p
 use Rattle.c_typing.proofs.Trees.{no, left_of, right_of}
 use Rattle.c_limits.specs.Frames.{is_helper}
 use Rattle.c_meaning.specs.Expressions.{Kind, missing}
-use Rattle.c_meaning.specs.Run.{kind_by, kind_of, kind_in, is_main}
+use Rattle.c_meaning.specs.Run.{kind_by, kind_of, kind_in}
 use Rattle.c_sound.specs.Sound.{is_scalar as is_single, is_array}
 use Rattle.c_sound.proofs.Judged.{Kept}
 use Rattle.c_sound.proofs.Walked.{Begins, same, further, next_in}
@@ -50,7 +49,7 @@ use Rattle.naive_typed.specs.Laws.{TypedIsSound}
 use Rattle.naive_typed.proofs.Nodes.{leaves, by_ends, block_leaves}
 use Rattle.naive_typed.proofs.Judged.{Stands, Names, named_more, one_each, Signatures}
 use Rattle.naive_typed.proofs.Walked.{list_good}
-use Rattle.naive_typed.proofs.Headings.{Typed_as, Good_heading, All_good, headings_good, definitions, Makes, Makes_maybe, params_elements, functions_made, signatures_callable, Main, main_among, main_type}
+use Rattle.naive_typed.proofs.Headings.{Typed_as, Good_heading, All_good, headings_good, definitions, Makes_maybe, params_elements, functions_made, signatures_callable, Main, main_among, main_type}
 
 -- ---- functions
 
@@ -215,7 +214,7 @@ module _ (kept : List ℕ) (w : ℕ) (t : Typed) (first : List ℕ → Option �
       let whole = list_good g t (made us) plain valued calls c h refl body in
       let trees = subst (Kept (λ (vs : List Stat). leaves false false (all_left (map (left_in w t (made us)) vs)))) e (whole.tree (same x.here.locals) names (right_of _ _ faultless)) in
       both _ _ (both _ _ (both _ _ (by_ends _ (block_leaves w t (made us) false false brace us trees)) (parameters_scalar (p.no_parameters f) (parameter_list ps) refl))
-          (when (bytes_eq m.bytes (codes "main")) _ alone)) (unless_so (is_helper m.bytes) _ plain)))
+      (when (bytes_eq m.bytes (codes "main")) _ alone)) (unless_so (is_helper m.bytes) _ plain)))
     where
       never_both : (b : Bool) → (b ≡ true → ⊥) → not b ≡ true
       never_both true h = absurd (h refl)

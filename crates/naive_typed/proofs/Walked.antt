@@ -1,5 +1,5 @@
 -- The typed tree of a statement that breaks no rule is sound, where the objects that it declares are among those of the function.
-use Rattle.std.proofs.Common.{◌≡◌, ℕ, zero, suc, ◌+◌, ◌≤◌, ◌==◌, nat_le, Bool, true, false, ◌&&◌, not, Option, Some, None, List, [], ◌∷◌, ◌++◌, map, length, slice_get, refl, sym, ap, subst, ◌∙◌, if◌then◌else◌, arith}
+use Rattle.std.proofs.Common.{◌≡◌, ℕ, suc, ◌+◌, ◌==◌, nat_le, Bool, true, false, ◌&&◌, not, Option, Some, None, List, [], ◌∷◌, ◌++◌, map, length, slice_get, refl, sym, ap, subst, ◌∙◌, if◌then◌else◌, arith}
 use Rattle.std.specs.Prelude.{⊤}
 use Rattle.std.specs.List.{list_all}
 use Rattle.std.proofs.lemmas.Bool.{and_from as both}
@@ -34,7 +34,6 @@ use Rattle.c_tree.specs.declared.typed.Stat.{Stat}
 use Rattle.c_tree.specs.declared.typed.Stat.TheVariants as stat
 use Rattle.c_tree.specs.declared.typed.Function.{Function}
 use Rattle.c_tree.specs.declared.typed.Typed.{Typed}
-use Rattle.c_tree.specs.Heads.{head_of}
 use Rattle.c_limits.specs.Frames.{is_helper}
 use Rattle.c_typing.specs.declared.names.Around.{Around}
 use Rattle.c_typing.specs.declared.names.Extent.{Extent}
@@ -49,7 +48,7 @@ use Rattle.c_meaning.specs.Expressions.{Kind}
 use Rattle.c_meaning.specs.Run.{kind_by, kind_of, kind_in, is_main}
 use Rattle.c_sound.proofs.Judged.{Kept, one_keeps, two_keeps, three_keeps, unless_keeps}
 use Rattle.c_sound.proofs.Walked.{Begins, same, further, next_in, kept_keeps, joined_keeps, anything}
-use Rattle.naive_run.specs.Sound.{has_type, is_sound_or_absent, fits_init, fit_locals, fits_start, fits_return, left_of as left_in, all_left}
+use Rattle.naive_run.specs.Sound.{has_type, is_sound_or_absent, fits_init, fit_locals, fits_start, left_of as left_in, all_left}
 use Rattle.naive_typed.proofs.Nodes.{ok, leaves, both_leave, block_leaves, declare_leaves, evaluate_leaves, if_leaves, else_leaves, while_leaves, do_leaves, for_leaves, switch_leaves, case_leaves, default_leaves, break_leaves, continue_leaves, return_leaves}
 use Rattle.naive_typed.proofs.Judged.{Stands, Names, named_more, Signatures, valued, used_keeps, converted_ok, converted_has, judged_good}
 
@@ -124,9 +123,9 @@ module _ (g : Within) (t : Typed) (f : Function) (plain : not (is_helper f.name)
   values_keep h b u n i l [] k = none_more n i l
   values_keep h b u n i l (e ∷ es) k =
       joined_more (has_type g.bits t f u) (listed u n (suc i)) (listed u n i) (λ x xs p q. both _ _ (both _ _ p (left_of _ _ q)) (counted n i (length xs) (right_of _ _ q)))
-          (one (converted u) (st.value_at g h e).seen.tree) (st.values u (map (st.value_at g h) es))
-          (one_keeps used_sound (has_type g.bits t f u) (converted u) (λ x p. converted_has g t f plain u x p) (st.value_at g h e).seen.tree (value_keeps h b e))
-          (values_keep h b u n (suc i) (one_more n i l (unbroken _ 19 _ (right_of _ _ (left_of _ _ k)))) es (right_of _ _ k))
+      (one (converted u) (st.value_at g h e).seen.tree) (st.values u (map (st.value_at g h) es))
+      (one_keeps used_sound (has_type g.bits t f u) (converted u) (λ x p. converted_has g t f plain u x p) (st.value_at g h e).seen.tree (value_keeps h b e))
+      (values_keep h b u n (suc i) (one_more n i l (unbroken _ 19 _ (right_of _ _ (left_of _ _ k)))) es (right_of _ _ k))
 
   init_keeps : (h : st.Here) → Names kind h.names → (u : CType) (x : Extent) (i : Initialiser) → Has_size x i → clean (st.initialised g h u x i).1 ≡ true
       → Kept (fits_init g.bits t f (kind_by u (st.length_of x))) (st.initialised g h u x i).0
@@ -140,7 +139,7 @@ module _ (g : Within) (t : Typed) (f : Function) (plain : not (is_helper f.name)
   init_keeps h b u extent.Scalar (initialiser.List at es q) z k = tt
   init_keeps h b u (extent.Elements m) (initialiser.List at es q) z k =
       one_keeps (listed u m 0) (fits_init g.bits t f (kind_by u (Some m))) init.List (λ x p. both _ _ (left_of _ _ p) (from_none m (length x) (right_of _ _ p)))
-          (st.values u (map (st.value_at g h) es)) (values_keep h b u m 0 (at_least m) es k)
+      (st.values u (map (st.value_at g h) es)) (values_keep h b u m 0 (at_least m) es k)
   init_keeps h b u extent.Unknown (initialiser.List at es q) z k = absurd z
 
   size_stands : (v : Option ℕ) (o : Option TypedExpr) (at : At) → typing.is_sound o ≡ true → clean (st.faulty_unless v o 16 at) ≡ true → (i : Initialiser) → Has_size (st.elements v) i

@@ -1,5 +1,6 @@
 -- A tree in which each name stands for an object of the kind as which it is used names no array but by its elements.
-use Rattle.std.proofs.Common.{◌≡◌, ℕ, Bool, true, not, Option, Some, None, List, [], ◌∷◌, map, refl}
+use Rattle.std.proofs.Common.{◌≡◌, ℕ, zero, suc, Bool, true, not, Option, Some, None, List, [], ◌∷◌, map, slice_get, refl, subst}
+use Rattle.std.specs.Prelude.{⊤}
 use Rattle.std.specs.List.{list_all}
 use Rattle.std.proofs.lemmas.Bool.{and_from as both}
 use Rattle.c_tree.proofs.TypedFolds.{Both, expr_relates, stat_relates}
@@ -20,10 +21,12 @@ use Rattle.c_typing.proofs.Trees.{no, left_of, right_of}
 use Rattle.c_meaning.specs.Expressions.{Kind, missing, scalar, array}
 use Rattle.c_meaning.specs.Run.{kind_in}
 use Rattle.c_sound.specs.Sound.{Known, Checked, is_scalar, each, expression, is_sound, all_sound, maybe_sound, init_sound, locals_sound, start_sound, all, statement, body_sound, known_in, functions_sound}
+use Rattle.c_sound.proofs.Judged.{Kept}
 use Rattle.c_sound.proofs.Programs.{typed_is_meant}
 use Rattle.naive_run.specs.Sound.{is_array}
+use Rattle.naive_counts.specs.Counts.{IsWithinWeight}
 use Rattle.naive_counts.specs.Names.{all_true, names_in, expression_names, option_names, list_names, init_names, locals_names, start_names, names_by, names_scalars}
-use Rattle.naive_typed.specs.Laws.{TypedNamesScalars}
+use Rattle.naive_typed.specs.Laws.{TypedNamesScalars, TypedIsWithinWeight}
 
 single : (k : Kind) → is_scalar k ≡ true → not (is_array k) ≡ true
 single missing h = no h
@@ -118,5 +121,14 @@ functions_named : (w : ℕ) (t : Typed) (fs : List Function) → functions_sound
 functions_named w t [] h = refl
 functions_named w t (f ∷ fs) h = both _ _ (body_named w t f f.body (left_of _ _ h)) (functions_named w t fs (right_of _ _ h))
 
+function_named : (t : Typed) (fs : List Function) → list_all (λ f. names_scalars t f f.body) fs ≡ true → (g : ℕ) → Kept (λ f. names_scalars t f f.body) (slice_get fs g)
+function_named t [] h g = tt
+function_named t (f ∷ fs) h zero = left_of _ _ h
+function_named t (f ∷ fs) h (suc g) = function_named t fs (right_of _ _ h) g
+
 pub typed_names_scalars : TypedNamesScalars
 typed_names_scalars w s t z is = functions_named w t t.functions (left_of _ _ (typed_is_meant w s t z is))
+
+pub typed_is_within_weight : IsWithinWeight → TypedIsWithinWeight
+typed_is_within_weight counted kept w pushed s t g f label z is at =
+    counted kept w pushed t f label (subst (Kept (λ (h : Function). names_scalars t h h.body)) at (function_named t t.functions (typed_names_scalars w s t z is) g))

@@ -207,10 +207,13 @@ combined_opens bytes (operation.Operator o) of by v b l x = let e = computed_non
 combined_opens bytes (operation.Helper f) of by v b l x = let e = one_label l x in omega (arith, e)
 
 binary_opens : (of by : CType) (s : Sort) (a b : Naive) → Opens a → Opens b → Opens (naive.logical_value of (naive.two by s a b) (naive.truth_of by s a b))
-binary_opens of by (computes o) a b g h = plain_opens of _ (joined_opens a.value b.value (naive.computed o by) g.value h.value (computed_none o by))
+binary_opens of by (computes o) a b g h = plain_opens of (naive.joined a.value b.value (naive.computed o by)) (joined_opens a.value b.value (naive.computed o by) g.value h.value (computed_none o by))
 binary_opens of by (compares r u) a b g h =
-    let y = compared_opens (relation_in by r u) a.value b.value g.value h.value in logical_opens of _ _ (truth_opens _ y) y
-binary_opens of by (logical and) a b g h = let y = in_turn_opens and a.test b.test g.test h.test in logical_opens of _ _ (truth_opens _ y) y
+    let y = naive.compared (relation_in by r u) a.value b.value in
+    let k = compared_opens (relation_in by r u) a.value b.value g.value h.value in
+    logical_opens of (naive.value_of y) y (truth_opens y k) k
+binary_opens of by (logical and) a b g h =
+    let y = naive.in_turn and a.test b.test in let k = in_turn_opens and a.test b.test g.test h.test in logical_opens of (naive.value_of y) y (truth_opens y k) k
 
 denied_opens : (y : Test) → TestOpens y → TestOpens (naive.denied y)
 denied_opens y h sense target next t l x = h (not sense) target next t l x
@@ -226,7 +229,7 @@ unary_opens of unary.Plus a h = plain_opens of a.value h.value
 unary_opens of unary.Minus a h = plain_opens of (naive.negated a.value) (negated_opens a.value h.value)
 unary_opens of unary.Complement a h =
     plain_opens of (naive.one unary.Complement a) (then_opens a.value 0 (λ d. []) (λ v t. code.complement v ∷ []) h.value (λ v t x. refl))
-unary_opens of unary.Not a h = let y = denied_opens a.test h.test in logical_opens of _ _ (truth_opens (naive.denied a.test) y) y
+unary_opens of unary.Not a h = let y = naive.denied a.test in let k = denied_opens a.test h.test in logical_opens of (naive.value_of y) y (truth_opens y k) k
 
 -- ---- assignments
 

@@ -1,4 +1,0 @@
-mod Windows
-mod ExpressionLabels
-mod StatementLabels
-mod FunctionLabels

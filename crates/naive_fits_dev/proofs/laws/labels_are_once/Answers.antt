@@ -1,5 +1,0 @@
-use Rattle.naive_fits_dev.proofs.FunctionLabels.{labels_are_once}
-use Rattle.naive_fits_dev.proofs.laws.labels_are_once.Goals as goal
-
-pub returns : goal.returns
-returns c = labels_are_once

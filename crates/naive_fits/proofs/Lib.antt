@@ -1,0 +1,4 @@
+mod Windows
+mod ExpressionLabels
+mod StatementLabels
+mod FunctionLabels

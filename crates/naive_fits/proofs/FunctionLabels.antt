@@ -1,12 +1,18 @@
 -- No two blocks of a function have one label.
-use Rattle.std.proofs.Common.{◌≡◌, ℕ, zero, suc, ◌+◌, ◌≤◌, ◌++◌, refl, arith}
+use Rattle.std.proofs.Common.{◌≡◌, ℕ, zero, suc, ◌+◌, ◌≤◌, ◌<◌, List, [], ◌∷◌, ◌++◌, refl, arith}
 use Rattle.std.specs.Prelude.{Bool, true, false, length}
+use Rattle.std.specs.List.{AllByRecursion}
+use Rattle.std.proofs.lemmas.List.Elements.{All-from_recursion}
+use Rattle.c_tree.specs.declared.typed.Function.{Function}
+use Rattle.c_tree.specs.declared.typed.Typed.{Typed}
 use Rattle.c_limits.specs.Frames.{word_bytes, frame_bytes}
 use Rattle.c_meaning.specs.Run.{is_main}
 use Rattle.naive_code.specs.Storage.{scalar_count}
-use Rattle.naive_code.specs.Functions.{entry_from, site_of, body_steps, ending, nowhere}
-use Rattle.naive_fits.specs.Labels.{LabelsAreOnce}
-use Rattle.naive_fits.proofs.Windows.{count, count_append, cut, one_label, window_once}
+use Rattle.naive_code.specs.Functions.{entry_from, site_of, body_steps, ending, nowhere, function_ops, function_labels}
+use Rattle.naive_builder.specs.Appending.{opened}
+use Rattle.naive_builder.specs.Finished.{times}
+use Rattle.naive_fits.specs.Labels.{IsAmong, LabelsAreOnce, LabelsAreOwn}
+use Rattle.naive_fits.proofs.Windows.{point, window, count, count_append, cut, one_label, window_once, in_window, point_here}
 use Rattle.naive_fits.proofs.StatementLabels.{statement_opens}
 
 entry_none : (bytes offset i n x : ℕ) → count x (entry_from bytes offset i n) ≡ 0
@@ -17,8 +23,10 @@ ending_none : (b : Bool) (t x : ℕ) → count x (ending b t) ≡ 0
 ending_none true t x = refl
 ending_none false t x = refl
 
-pub labels_are_once : LabelsAreOnce
-labels_are_once kept w pushed t f label x =
+-- each label is opened at most as often as it stands among those of the function
+opens_own : (kept : List ℕ) (w pushed : ℕ) (t : Typed) (f : Function) (label x : ℕ)
+    → times x (label ∷ opened (function_ops kept w pushed t f label)) ≤ window label (function_labels kept w t f) x
+opens_own kept w pushed t f label x =
     let first = entry_from (word_bytes w) (frame_bytes kept w f + pushed) 0 (length f.params) in
     let p = body_steps kept w t f in
     let body = p.ops nowhere (scalar_count f) (label + 1) in
@@ -28,5 +36,20 @@ labels_are_once kept w pushed t f label x =
     let g1 = (statement_opens (site_of kept w t f) f.locals f.body).ops nowhere (scalar_count f) (label + 1) x in
     let g2 = ending_none (is_main f) (scalar_count f + p.temps) x in
     let c = cut label 1 p.labels (label + 1) (1 + p.labels) x refl refl in let i = one_label label x in
-    let most = window_once label (1 + p.labels) x in
-    omega (arith, e, e1, g, g1, g2, c, i, most)
+    omega (arith, e, e1, g, g1, g2, c, i)
+
+pub labels_are_once : LabelsAreOnce
+labels_are_once kept w pushed t f label x =
+    let e = opens_own kept w pushed t f label x in let most = window_once label (function_labels kept w t f) x in omega (arith, e, most)
+
+among : (l n : ℕ) (ls : List ℕ) → ((x : ℕ) → times x ls ≤ window l n x) → AllByRecursion (IsAmong l n) ls
+among l n [] h = tt
+among l n (y ∷ ys) h =
+    let here = h y in let one = point_here y in
+    (in_window l n y (omega (arith, here, one)), among l n ys (λ x. let e = h x in omega (arith, e)))
+
+pub labels_are_own : LabelsAreOwn
+labels_are_own kept w pushed t f label =
+    let n = function_labels kept w t f in
+    All-from_recursion (IsAmong label n) (label ∷ opened (function_ops kept w pushed t f label))
+    (among label n (label ∷ opened (function_ops kept w pushed t f label)) (opens_own kept w pushed t f label))

@@ -1,5 +1,6 @@
 -- How often operations open a label, against how often it stands among fresh ones in a row.
-use Rattle.std.proofs.Common.{◌≡◌, ℕ, zero, suc, ◌+◌, ◌≤◌, ◌<◌, List, [], ◌∷◌, ◌++◌, refl, ap, subst, sym, arith}
+use Rattle.std.proofs.Common.{◌≡◌, ℕ, zero, suc, ◌+◌, ◌≤◌, ◌<◌, ◌⊎◌, inl, inr, List, [], ◌∷◌, ◌++◌, refl, ap, subst, sym, arith}
+use Rattle.std.proofs.lemmas.Bool.{cases_lt}
 use Rattle.std.proofs.lemmas.Bool.Decides.{nat_tests}
 use Rattle.std.specs.Prelude.{◌==◌, if◌then◌else◌}
 use Rattle.naive_code.specs.Operations.{Op, Make, Meet, Scale, Extend, Close}
@@ -72,3 +73,26 @@ window_above l (suc n) x lt = let e = window_above (suc l) n x (omega (arith, lt
 pub window_once : (l n x : ℕ) → window l n x ≤ 1
 window_once l zero x = omega arith
 window_once l (suc n) x = grind (arith, nat_tests, window_once (suc l) n x, window_above (suc l) n x)
+
+pub point_here : (x : ℕ) → point x x ≡ 1
+point_here x = grind (arith, nat_tests)
+
+-- and no others
+
+point_below : (l x : ℕ) → l < x → point l x ≡ 0
+point_below l x lt = grind (arith, nat_tests, lt)
+
+window_below : (l n x : ℕ) → l + n ≤ x → window l n x ≡ 0
+window_below l zero x le = refl
+window_below l (suc n) x le = let e = window_below (suc l) n x (omega (arith, le)) in let p = point_below l x (omega (arith, le)) in omega (arith, e, p)
+
+first_of : (l n x : ℕ) → 1 ≤ window l n x → (x < l) ⊎ (l ≤ x) → l ≤ x
+first_of l n x le (inl lt) = let e = window_above l n x lt in absurd (omega (arith, le, e))
+first_of l n x le (inr ge) = ge
+
+last_of : (l n x : ℕ) → 1 ≤ window l n x → (x < l + n) ⊎ (l + n ≤ x) → x < l + n
+last_of l n x le (inl lt) = lt
+last_of l n x le (inr ge) = let e = window_below l n x ge in absurd (omega (arith, le, e))
+
+pub in_window : (l n x : ℕ) → 1 ≤ window l n x → (l ≤ x) × (x < l + n)
+in_window l n x le = (first_of l n x le (cases_lt x l), last_of l n x le (cases_lt x (l + n)))

@@ -1,1 +1,5 @@
 pub mod Labels
+pub mod Doable
+pub mod Expandable
+pub mod Bounds
+pub mod Fitting

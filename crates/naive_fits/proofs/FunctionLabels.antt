@@ -11,7 +11,7 @@ use Rattle.naive_code.specs.Storage.{scalar_count}
 use Rattle.naive_code.specs.Functions.{entry_from, site_of, body_steps, ending, nowhere, function_ops, function_labels}
 use Rattle.naive_builder.specs.Appending.{opened}
 use Rattle.naive_builder.specs.Finished.{times}
-use Rattle.naive_fits.specs.Labels.{IsAmong, LabelsAreOnce, LabelsAreOwn}
+use Rattle.naive_fits.specs.Labels.{IsAmong, LabelsAreOnce, LabelsAreOwn, labels_from, AllLabelsAreOnce}
 use Rattle.naive_fits.proofs.Windows.{point, window, count, count_append, cut, one_label, window_once, in_window, point_here}
 use Rattle.naive_fits.proofs.StatementLabels.{statement_opens}
 
@@ -53,3 +53,28 @@ labels_are_own kept w pushed t f label =
     let n = function_labels kept w t f in
     All-from_recursion (IsAmong label n) (label ∷ opened (function_ops kept w pushed t f label))
     (among label n (label ∷ opened (function_ops kept w pushed t f label)) (opens_own kept w pushed t f label))
+
+-- ---- of several functions
+
+times_append : (x : ℕ) (ls ks : List ℕ) → times x (ls ++ ks) ≡ times x ls + times x ks
+times_append x [] ks = omega arith
+times_append x (l ∷ ls) ks = let e = times_append x ls ks in omega (arith, e)
+
+module _ (kept : List ℕ) (w pushed : ℕ) (t : Typed) where
+  abbrev labels_of : List Function → ℕ
+  labels_of [] = 0
+  labels_of (f ∷ fs) = function_labels kept w t f + labels_of fs
+
+  all_own : (fs : List Function) (label x : ℕ) → times x (labels_from kept w pushed t fs label) ≤ window label (labels_of fs) x
+  all_own [] label x = omega arith
+  all_own (f ∷ fs) label x =
+      let n = function_labels kept w t f in
+      let own = label ∷ opened (function_ops kept w pushed t f label) in
+      let e = times_append x own (labels_from kept w pushed t fs (label + n)) in
+      let c = cut label n (labels_of fs) (label + n) (n + labels_of fs) x refl refl in
+      let g = opens_own kept w pushed t f label x in let h = all_own fs (label + n) x in
+      omega (arith, e, c, g, h)
+
+pub all_labels_are_once : AllLabelsAreOnce
+all_labels_are_once kept w pushed t fs label x =
+    let e = all_own kept w pushed t fs label x in let most = window_once label (labels_of kept w pushed t fs) x in omega (arith, e, most)

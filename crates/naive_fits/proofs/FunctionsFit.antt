@@ -50,6 +50,8 @@ operations_fit kept d link has t n f label size there bounds sound ok is =
     let w = d.word in
     let frame : frame_bytes kept w f ≤ 32000 = holds_at (λ f. frame_bytes kept w f ≤ 32000) t.functions n f bounds.frames is in
     let few = few_parameters has w t ok in
+    let own = few n f is in
+    let params : 0 + length f.params ≤ 16 = omega (arith, own) in
     let parts = both_so _ _ (passes (is_expandable_function has w) t.functions n f ok is) in
     let whole = frame_whole kept w f in
     let p = body_steps kept w t f in
@@ -59,5 +61,5 @@ operations_fit kept d link has t n f label size there bounds sound ok is =
     let fits = statement_fits d size has there t f bounds.functions few kept bounds.statics frame f.body
     (body_sound kept w t f (passes (is_sound_function kept w t) t.functions n f sound is)) parts.1 in
     All-from_recursion (IsDoable d) (function_ops kept w (pushed_by link (w / 8)) t f label)
-    (fit_append d first (body ++ last) (entry_fits d size (frame_bytes kept w f) whole.0 link 0 (length f.params) whole.1 frame (few n f is))
+    (fit_append d first (body ++ last) (entry_fits d size (frame_bytes kept w f) whole.0 link 0 (length f.params) whole.1 frame params)
     (fit_append d body last (fits.ops nowhere (scalar_count f) (label + 1)) (ending_fits d size (is_main f) (scalar_count f + p.temps))))

@@ -1,21 +1,18 @@
 -- A tree within the limits has no frame above 32,000 bytes, and few functions and objects.
-use Rattle.std.proofs.Common.{◌≡◌, ◌⊎◌, inl, inr, ℕ, zero, suc, ◌+◌, ◌*◌, ◌^◌, ◌≤◌, ◌<◌, List, [], ◌∷◌, ◌++◌, refl, ap, ◌∙◌, arith, true, false}
+use Rattle.std.proofs.Common.{◌≡◌, ℕ, ◌+◌, ◌*◌, ◌≤◌, List, [], ◌∷◌, ◌++◌, refl, arith, true, false}
 use Rattle.std.proofs.lemmas.Bool.Decides.{nat_tests}
 use Rattle.std.proofs.lemmas.List.Elements.{All-from_recursion}
-use Rattle.std.specs.Prelude.{Bool, ◌||◌, ◌==◌, nat_lt, length, if◌then◌else◌}
+use Rattle.std.specs.Prelude.{Bool, ◌||◌, nat_lt, length}
 use Rattle.std.specs.List.{AllByRecursion}
-use Rattle.rtl_word.specs.Words.{IsWordSize}
 use Rattle.rtl_word.proofs.Below.{by_size}
 use Rattle.vp_io.specs.declared.answers.Reason.{Reason}
 use Rattle.c_tree.specs.declared.token.At.{At}
 use Rattle.c_tree.specs.declared.typed.Static.{Static}
 use Rattle.c_tree.specs.declared.typed.Function.{Function}
-use Rattle.c_tree.specs.declared.typed.Typed.{Typed}
 use Rattle.c_limits.specs.Weights.{function_weight}
 use Rattle.c_limits.specs.Frames.{object_bytes, frame_bytes}
-use Rattle.c_limits.specs.Limits.{told_if, most_weight, function_faults, static_faults, limit_faults}
-use Rattle.naive_fits.specs.Bounds.{IsBounded, LimitsBound}
-use Rattle.naive_fits.proofs.Parts.{not_so}
+use Rattle.c_limits.specs.Limits.{told_if, most_weight, function_faults, static_faults}
+use Rattle.naive_fits.specs.Bounds.{LimitsBound}
 
 both_empty : (xs ys : List Reason) → xs ++ ys ≡ [] → (xs ≡ []) × (ys ≡ [])
 both_empty [] ys e = (refl, e)

@@ -1,9 +1,9 @@
 -- Operations that can be made: lists of them, numbers, and the parts of an expression's code.
-use Rattle.std.proofs.Common.{◌≡◌, ℕ, zero, suc, ◌+◌, ◌*◌, ◌%◌, ◌^◌, ◌≤◌, ◌<◌, inl, List, [], ◌∷◌, ◌++◌, Option, Some, None, refl, sym, ap, subst, arith, true, false}
+use Rattle.std.proofs.Common.{◌≡◌, ℕ, zero, suc, ◌+◌, ◌*◌, ◌%◌, ◌^◌, ◌≤◌, ◌<◌, inl, List, [], ◌∷◌, ◌++◌, Some, refl, ap, subst, arith, true, false}
 use Rattle.std.proofs.lemmas.Bool.Decides.{nat_tests}
 use Rattle.std.proofs.lemmas.Nat.{pow_pos, mod_below}
 use Rattle.std.proofs.lemmas.Option.{slice_get_within, get_or_from_slice_get}
-use Rattle.std.specs.Prelude.{Bool, ◌&&◌, ◌==◌, nat_le, nat_lt, length, slice_get, unwrap_or, All}
+use Rattle.std.specs.Prelude.{Bool, ◌&&◌, ◌==◌, nat_le, nat_lt, slice_get, unwrap_or, All}
 use Rattle.std.specs.List.{AllByRecursion, list_all}
 use Rattle.rtl_word.specs.Words.{IsWordSize}
 use Rattle.rtl_word.proofs.Below.{by_size, word_sxb-below}

@@ -1,5 +1,5 @@
 -- Operations that a description's rows can do: their numbers fit the shapes, and the description covers their operators.
-use Rattle.std.specs.Prelude.{ℕ, ◌<◌, ◌^◌, List, All}
+use Rattle.std.specs.Prelude.{◌<◌, ◌^◌, List, All}
 use Rattle.md_rows.specs.declared.description.RawDescription.{RawDescription}
 use Rattle.md_shapes.specs.declared.patterns.Pattern.{Pattern}
 use Rattle.md_shapes.specs.declared.patterns.Pattern.TheVariants as shape

@@ -18,7 +18,6 @@ use Rattle.c_tree.specs.declared.typed.LocalInit.TheVariants as init
 use Rattle.c_tree.specs.declared.typed.Local.{Local}
 use Rattle.c_tree.specs.declared.typed.Start.{Start}
 use Rattle.c_tree.specs.declared.typed.Start.TheVariants as start
-use Rattle.c_tree.specs.declared.typed.Stat.{Stat}
 use Rattle.c_tree.specs.declared.typed.Stat.TheOpen as stat
 use Rattle.c_tree.specs.declared.typed.Stat.TheFolds.{fold-Stat}
 use Rattle.c_tree.specs.declared.typed.Function.{Function}

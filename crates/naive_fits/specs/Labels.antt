@@ -1,5 +1,5 @@
 -- The labels of naive code.
-use Rattle.std.specs.Prelude.{ℕ, ◌+◌, ◌≤◌, ◌<◌, List, ◌∷◌, All}
+use Rattle.std.specs.Prelude.{ℕ, ◌+◌, ◌≤◌, ◌<◌, List, [], ◌∷◌, ◌++◌, All}
 use Rattle.c_tree.specs.declared.typed.Function.{Function}
 use Rattle.c_tree.specs.declared.typed.Typed.{Typed}
 use Rattle.naive_code.specs.Functions.{function_ops, function_labels}
@@ -19,3 +19,12 @@ abbrev pub LabelsAreOwn : Type 0
 LabelsAreOwn =
     (kept : List ℕ) (w pushed : ℕ) (t : Typed) (f : Function) (label : ℕ)
     → All (IsAmong label (function_labels kept w t f)) (label ∷ opened (function_ops kept w pushed t f label))
+
+-- the labels of functions, of which each has those behind the ones of the function before it
+abbrev pub labels_from : (kept : List ℕ) → (w pushed : ℕ) → Typed → List Function → (label : ℕ) → List ℕ
+labels_from kept w pushed t [] l = []
+labels_from kept w pushed t (f ∷ fs) l = (l ∷ opened (function_ops kept w pushed t f l)) ++ labels_from kept w pushed t fs (l + function_labels kept w t f)
+
+-- no two blocks of all of them have one label
+abbrev pub AllLabelsAreOnce : Type 0
+AllLabelsAreOnce = (kept : List ℕ) (w pushed : ℕ) (t : Typed) (fs : List Function) (label : ℕ) → AreOnce (labels_from kept w pushed t fs label)

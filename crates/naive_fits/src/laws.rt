@@ -1,6 +1,6 @@
 //! Laws of the operations that a function's naive code is made of.
 
-ghost use Rattle.naive_fits.specs.Labels.{LabelsAreOnce, LabelsAreOwn};
+ghost use Rattle.naive_fits.specs.Labels.{AllLabelsAreOnce, LabelsAreOnce, LabelsAreOwn};
 ghost use Rattle.naive_fits.specs.Bounds.{LimitsBound};
 ghost use Rattle.naive_fits.specs.Fitting.{OperationsFit};
 
@@ -12,6 +12,11 @@ pub fn labels_are_once()
 /// The labels of a function are those from its first block's on, as many as it takes.
 pub fn labels_are_own()
     ensures { LabelsAreOwn }
+{}
+
+/// No two blocks of functions that follow each other have one label.
+pub fn all_labels_are_once()
+    ensures { AllLabelsAreOnce }
 {}
 
 /// A source within the limits has no frame that offsets don't reach, and few functions and objects.

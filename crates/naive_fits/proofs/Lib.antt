@@ -8,3 +8,4 @@ mod Frames
 mod StatementsFit
 mod FunctionsFit
 mod Limits
+mod Meeting

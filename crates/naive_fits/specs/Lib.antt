@@ -3,3 +3,4 @@ pub mod Doable
 pub mod Expandable
 pub mod Bounds
 pub mod Fitting
+pub mod Example

@@ -3,6 +3,7 @@
 ghost use Rattle.naive_fits.specs.Labels.{AllLabelsAreOnce, LabelsAreOnce, LabelsAreOwn};
 ghost use Rattle.naive_fits.specs.Bounds.{LimitsBound};
 ghost use Rattle.naive_fits.specs.Fitting.{OperationsFit};
+ghost use Rattle.naive_fits.specs.Example.{PremisesAreMet};
 
 /// Each label of a function is opened once.
 pub fn labels_are_once()
@@ -27,4 +28,9 @@ pub fn limits_bound()
 /// Each operation of a sound function can be made: its numbers fit the shapes, and its operators are there.
 pub fn operations_fit()
     ensures { OperationsFit }
+{}
+
+/// A source of one function meets the premises.
+pub fn premises_are_met()
+    ensures { PremisesAreMet }
 {}

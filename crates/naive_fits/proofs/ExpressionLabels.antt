@@ -1,5 +1,5 @@
 -- The code of an expression opens labels among its own, each at most once; a test opens the label behind it besides.
-use Rattle.std.proofs.Common.{◌≡◌, ℕ, zero, suc, ◌+◌, ◌≤◌, List, [], ◌∷◌, ◌++◌, map, refl, arith, true, false}
+use Rattle.std.proofs.Common.{◌≡◌, ℕ, zero, suc, ◌+◌, ◌≤◌, List, [], ◌∷◌, ◌++◌, map, refl, arith, false}
 use Rattle.std.specs.Prelude.{Bool, not}
 use Rattle.rtl_word.specs.declared.Rel.{Rel}
 use Rattle.rtl_word.specs.declared.Rel.TheVariants.{Ne}

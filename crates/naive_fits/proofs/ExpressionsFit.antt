@@ -1,7 +1,7 @@
 -- The code of a sound expression whose operators are there can be made.
 use Rattle.std.proofs.Common.{◌≡◌, ℕ, zero, suc, ◌+◌, ◌*◌, ◌^◌, ◌≤◌, ◌<◌, List, [], ◌∷◌, ◌++◌, map, Option, Some, None, refl, sym, ap, subst, arith, true, false}
 use Rattle.std.proofs.lemmas.Option.{slice_get_within}
-use Rattle.std.specs.Prelude.{Bool, not, ◌&&◌, ◌==◌, length, slice_get}
+use Rattle.std.specs.Prelude.{Bool, not, ◌==◌, length, slice_get}
 use Rattle.rtl_word.specs.Words.{IsWordSize}
 use Rattle.rtl_word.specs.declared.Rel.{Rel}
 use Rattle.rtl_word.specs.declared.Rel.TheVariants.{Ne}
@@ -10,7 +10,6 @@ use Rattle.rtl_tree.specs.declared.expressions.BinOp.TheVariants as op
 use Rattle.md_rows.specs.declared.description.RawDescription.{RawDescription}
 use Rattle.c_tree.specs.declared.types.CType.{CType}
 use Rattle.c_tree.specs.declared.types.CType.TheVariants as type
-use Rattle.c_tree.specs.declared.syntax.BinaryOperator.{BinaryOperator}
 use Rattle.c_tree.specs.declared.syntax.UnaryOperator.{UnaryOperator}
 use Rattle.c_tree.specs.declared.syntax.UnaryOperator.TheVariants as unary
 use Rattle.c_tree.specs.declared.syntax.StepOperator.{StepOperator}
@@ -25,17 +24,17 @@ use Rattle.c_tree.specs.declared.typed.Typed.{Typed}
 use Rattle.c_tree.specs.declared.typed.TypedExpr.{TypedExpr}
 use Rattle.c_tree.specs.declared.typed.TypedExpr.TheOpen.{TypedExpr-F, Comma, Assign, Compound, Conditional, Binary, Unary, Before, After, Constant, Object, Element, Call, Convert}
 use Rattle.c_tree.specs.declared.typed.TypedExpr.TheFolds.{fold-TypedExpr, map-TypedExpr}
-use Rattle.c_limits.specs.Frames.{word_bytes, is_helper}
+use Rattle.c_limits.specs.Frames.{word_bytes}
 use Rattle.c_meaning.specs.Operators.{Sort, computes, compares, logical, sort_of, relation_in, computed_in, as_type}
 use Rattle.naive_code.specs.Operations as code
 use Rattle.naive_code.specs.Operations.{Op, Falls, Jumps, Close, Calls, constant, copy, read_result}
 use Rattle.naive_code.specs.Storage.{Storage, Temporary, Word, Elements, Missing}
 use Rattle.naive_code.specs.Expressions as naive
 use Rattle.naive_code.specs.Expressions.{Value, Test, Designated, object, element, nowhere, Naive, Site}
-use Rattle.naive_run.specs.Sound.{Checked, a_word, alike, is_word, all_fit, are_words, fits_function, fits_call, fits_operation, checked_by, type_of, checked}
+use Rattle.naive_run.specs.Sound.{Checked, a_word, all_fit, fits_function, fits_call, fits_operation, checked_by, type_of, checked}
 use Rattle.naive_counts.proofs.Folds.{Three, expressions_relate}
 use Rattle.naive_fits.specs.Doable.{IsDoable}
-use Rattle.naive_fits.specs.Expandable.{AreThere, Used, optional, is_there, sort_there, operation_there, there_by, used_by, all_there}
+use Rattle.naive_fits.specs.Expandable.{AreThere, Used, sort_there, operation_there, used_by, all_there}
 use Rattle.naive_fits.proofs.Parts.{not_so, both_so, same_number, as_type_word, few_words, StorageFits, Fit, fit_append, put_into_fit, settled_fit, stepped_fit, computed_fit, small, narrowed_fit, fetched_fit, addressed_fit, got_fit}
 
 module _ (d : RawDescription) (size : IsWordSize d.word) where
@@ -99,7 +98,7 @@ module _ (d : RawDescription) (size : IsWordSize d.word) where
   truth_fits y h t l = (
     small d size 0 (omega arith),
     fit_append d (y.ops false l (l + 1) (t + 1) (l + 2)) (constant t 1 ∷ Close Falls l ∷ []) (h false l (l + 1) (t + 1) (l + 2))
-    (small d size 1 (omega arith), (tt, tt)),
+        (small d size 1 (omega arith), (tt, tt)),
   )
 
   compared_fits : (r : Rel) (a b : Value) → ValueFits a → ValueFits b → TestFits (naive.compared r a b)

@@ -1,5 +1,5 @@
 -- No two blocks of a function have one label.
-use Rattle.std.proofs.Common.{◌≡◌, ℕ, zero, suc, ◌+◌, ◌≤◌, ◌<◌, List, [], ◌∷◌, ◌++◌, refl, arith}
+use Rattle.std.proofs.Common.{◌≡◌, ℕ, zero, suc, ◌+◌, ◌≤◌, List, [], ◌∷◌, ◌++◌, refl, arith}
 use Rattle.std.specs.Prelude.{Bool, true, false, length}
 use Rattle.std.specs.List.{AllByRecursion}
 use Rattle.std.proofs.lemmas.List.Elements.{All-from_recursion}
@@ -12,7 +12,7 @@ use Rattle.naive_code.specs.Functions.{entry_from, site_of, body_steps, ending, 
 use Rattle.naive_builder.specs.Appending.{opened}
 use Rattle.naive_builder.specs.Finished.{times}
 use Rattle.naive_fits.specs.Labels.{IsAmong, LabelsAreOnce, LabelsAreOwn, labels_from, AllLabelsAreOnce}
-use Rattle.naive_fits.proofs.Windows.{point, window, count, count_append, cut, one_label, window_once, in_window, point_here}
+use Rattle.naive_fits.proofs.Windows.{window, count, count_append, cut, one_label, window_once, in_window, point_here}
 use Rattle.naive_fits.proofs.StatementLabels.{statement_opens}
 
 entry_none : (bytes offset i n x : ℕ) → count x (entry_from bytes offset i n) ≡ 0

@@ -1,7 +1,7 @@
 -- The operations of a function can be made.
-use Rattle.std.proofs.Common.{◌≡◌, ℕ, zero, suc, ◌+◌, ◌*◌, ◌/◌, ◌^◌, ◌≤◌, ◌<◌, List, [], ◌∷◌, ◌++◌, Option, Some, None, refl, arith, true, false}
+use Rattle.std.proofs.Common.{◌≡◌, ℕ, zero, suc, ◌+◌, ◌*◌, ◌/◌, ◌≤◌, List, ◌++◌, Option, Some, arith, true, false}
 use Rattle.std.proofs.lemmas.List.Elements.{All-from_recursion}
-use Rattle.std.specs.Prelude.{Bool, ◌&&◌, ◌||◌, not, nat_le, length, slice_get}
+use Rattle.std.specs.Prelude.{Bool, ◌||◌, not, nat_le, length, slice_get}
 use Rattle.std.specs.List.{list_all}
 use Rattle.rtl_word.specs.Words.{IsWordSize}
 use Rattle.rtl_tree.specs.declared.expressions.BinOp.{BinOp}
@@ -13,10 +13,9 @@ use Rattle.c_meaning.specs.Run.{is_main}
 use Rattle.temp_machine.specs.Routines.{pushed_by}
 use Rattle.naive_code.specs.Storage.{scalar_count}
 use Rattle.naive_code.specs.Functions.{entry_from, body_steps, ending, nowhere, function_ops}
-use Rattle.naive_run.specs.Sound.{left_of, is_scalar, is_sound_function, is_sound}
+use Rattle.naive_run.specs.Sound.{left_of, is_scalar, is_sound_function}
 use Rattle.naive_fits.specs.Doable.{IsDoable}
-use Rattle.naive_fits.specs.Expandable.{AreThere, is_expandable_function, is_expandable}
-use Rattle.naive_fits.specs.Bounds.{IsBounded}
+use Rattle.naive_fits.specs.Expandable.{is_expandable_function, is_expandable}
 use Rattle.naive_fits.specs.Fitting.{OperationsFit}
 use Rattle.naive_fits.proofs.Parts.{both_so, at_most, passes, holds_at, Fit, fit_append, small}
 use Rattle.naive_fits.proofs.Frames.{frame_whole, parameter_offset}

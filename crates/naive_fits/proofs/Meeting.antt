@@ -1,5 +1,5 @@
 -- The example meets the premises.
-use Rattle.std.proofs.Common.{◌≡◌, ℕ, ◌≤◌, [], ◌∷◌, Some, refl, ap, ◌∙◌, arith, true, false}
+use Rattle.std.proofs.Common.{◌≡◌, ◌≤◌, [], ◌∷◌, Some, refl, ap, ◌∙◌, arith, true}
 use Rattle.std.proofs.lemmas.List.Elements.{All-from_recursion}
 use Rattle.std.specs.Prelude.{Bool, ◌&&◌}
 use Rattle.rtl_tree.specs.declared.expressions.BinOp.{BinOp}

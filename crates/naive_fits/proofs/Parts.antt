@@ -68,7 +68,7 @@ as_type_word w type.Int x z = mod_below _ _ (pow_pos w)
 as_type_word w type.Unsigned x z = mod_below _ _ (pow_pos w)
 as_type_word w type.Void x z = mod_below _ _ (pow_pos w)
 
-pub small_word : (w n : ℕ) → IsWordSize w → n ≤ 32000 → n < 2 ^ w
+small_word : (w n : ℕ) → IsWordSize w → n ≤ 32000 → n < 2 ^ w
 small_word w n z le = by_size (λ w. n < 2 ^ w) (omega (arith, le)) (omega (arith, le)) w z
 
 -- a multiple of a word's bytes in a frame, or a little above it

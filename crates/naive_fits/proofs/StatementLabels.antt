@@ -21,7 +21,7 @@ use Rattle.naive_code.specs.Storage.{Symbol, Frame, Storage, Temporary, Word, El
 use Rattle.naive_code.specs.Expressions.{Value, Test, Site, naive, put_into, put_at}
 use Rattle.naive_code.specs.Statements as steps
 use Rattle.naive_code.specs.Statements.{Around, Steps, no_steps, joined, all_joined, used, dropped}
-use Rattle.naive_fits.proofs.Windows.{point, window, count, count_append, cut, one_label, two_labels, three_labels, four_labels}
+use Rattle.naive_fits.proofs.Windows.{window, count, count_append, cut, one_label, two_labels, three_labels, four_labels}
 use Rattle.naive_fits.proofs.ExpressionLabels.{ValueOpens, TestOpens, put_none, put_into_none, expression_opens}
 
 pub record StepsOpen (p : Steps) : Type 0 where

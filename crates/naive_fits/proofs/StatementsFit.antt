@@ -1,5 +1,5 @@
 -- The code of a sound statement whose operators are there can be made.
-use Rattle.std.proofs.Common.{◌≡◌, ℕ, zero, suc, ◌+◌, ◌*◌, ◌^◌, ◌≤◌, ◌<◌, List, [], ◌∷◌, ◌++◌, map, Option, Some, None, refl, arith, true, false}
+use Rattle.std.proofs.Common.{◌≡◌, ℕ, suc, ◌+◌, ◌*◌, ◌^◌, ◌≤◌, ◌<◌, List, [], ◌∷◌, ◌++◌, map, Option, Some, None, arith, true, false}
 use Rattle.std.specs.Prelude.{Bool, ◌&&◌, length, slice_get, nat_le, nat_lt, if◌then◌else◌}
 use Rattle.std.specs.List.{list_all}
 use Rattle.rtl_word.specs.Words.{IsWordSize}
@@ -35,7 +35,7 @@ use Rattle.naive_code.specs.Functions.{site_of}
 use Rattle.naive_run.specs.Sound.{Left, all_left, checked, has_type, is_sound_or_absent, fits_init, fit_locals, fits_start, fits_return, left_by, left_of}
 use Rattle.naive_counts.proofs.Folds.{Three, statements_relate}
 use Rattle.naive_fits.specs.Expandable.{AreThere, is_there_in, option_there, init_there, locals_there, start_there, expandable_by, all_so}
-use Rattle.naive_fits.proofs.Parts.{not_so, both_so, at_most, below, StorageFits, Fit, fit_append, put_fit, put_into_fit, small}
+use Rattle.naive_fits.proofs.Parts.{not_so, both_so, at_most, below, Fit, fit_append, put_fit, put_into_fit, small}
 use Rattle.naive_fits.proofs.ExpressionsFit.{ValueFits, TestFits, Coded, expression_coded}
 use Rattle.naive_fits.proofs.Frames.{room_in, array_offset, array_room, element_small, element_within, storages_fit}
 
@@ -125,14 +125,28 @@ module _ (d : RawDescription) (size : IsWordSize d.word) where
       cleared_fit from to g h = record {
         ops = λ a k l. (
           tt,
-          (tt,
-          (at_element from g,
-          (tt,
-          (at_element to h,
-          (tt,
-          (small d size 0 (omega arith),
-          (small d size (element_bytes d.word of) (element_small d.word of size),
-          (tt, fit_append d (put_at of k (k + 4)) (add k (k + 5) ∷ Close (Branches Ne k (k + 1) l) (l + 1) ∷ []) (put_fit d of k (k + 4)) (tt, (tt, tt)))))))))),
+          (
+            tt,
+            (
+              at_element from g,
+              (
+                tt,
+                (
+                  at_element to h,
+                  (
+                    tt,
+                    (
+                      small d size 0 (omega arith),
+                      (
+                        small d size (element_bytes d.word of) (element_small d.word of size),
+                        (tt, fit_append d (put_at of k (k + 4)) (add k (k + 5) ∷ Close (Branches Ne k (k + 1) l) (l + 1) ∷ []) (put_fit d of k (k + 4)) (tt, (tt, tt))),
+                      ),
+                    ),
+                  ),
+                ),
+              ),
+            ),
+          ),
         );
         cases = tt;
       }
@@ -246,9 +260,11 @@ module _ (d : RawDescription) (size : IsWordSize d.word) where
           let o1 = first.ops a k (l + 4) in let o2 = e.ops false l (l + 2) k1 l1 in let o3 = p.ops b k2 l2 in let o4 = step.ops a k3 l3 in
           let last = Close (Jumps (l + 1)) l ∷ [] in
           let behind = Close Falls (l + 3) ∷ (o4 ++ last) in
-          fit_append d o1 (Close Falls (l + 1) ∷ (o2 ++ (o3 ++ behind))) (g.ops a k (l + 4))
-          (tt, fit_append d o2 (o3 ++ behind) (h false l (l + 2) k1 l1)
-          (fit_append d o3 behind (j.ops b k2 l2) (tt, fit_append d o4 last (i.ops a k3 l3) (tt, tt))));
+          fit_append d o1 (Close Falls (l + 1) ∷ (o2 ++ (o3 ++ behind))) (g.ops a k (l + 4)) (
+            tt,
+            fit_append d o2 (o3 ++ behind) (h false l (l + 2) k1 l1)
+                (fit_append d o3 behind (j.ops b k2 l2) (tt, fit_append d o4 last (i.ops a k3 l3) (tt, tt))),
+          );
       cases = tt;
     }
 

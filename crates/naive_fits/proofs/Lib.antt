@@ -1,0 +1,11 @@
+mod Windows
+mod ExpressionLabels
+mod StatementLabels
+mod FunctionLabels
+mod Parts
+mod ExpressionsFit
+mod Frames
+mod StatementsFit
+mod FunctionsFit
+mod Limits
+mod Meeting

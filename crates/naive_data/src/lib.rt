@@ -1,0 +1,14 @@
+//! The objects of the file as naive code finds them: an address for each, and their bytes.
+//!
+//! Each object is at a multiple of a word, behind the one before it. A scalar is a word, also of a character type; an array has its
+//! elements, characters as bytes. What isn't listed is 0, and the low byte of a word comes first. specs/Layout.antt is the definition, and
+//! `IsPlaced` there what the law of naive code asks of objects of the file.
+//!
+//! - `values`: elements and their bytes.
+//! - `objects`: objects in a row.
+#![tactic(auto)]
+
+mod objects;
+mod values;
+
+pub use objects::{Data, place_statics};

@@ -5,7 +5,7 @@ ghost use Rattle.c_limits.specs.Sums.{capped};
 ghost use Rattle.c_limits.specs.Depths.{arguments_of, conversion_depth, deepest_of, depth_of, greatest_in, in_block, in_else, in_init, in_list, in_locals, in_option, in_start, most_of};
 
 use c_tree::typed::{Local, LocalInit, Start};
-use c_tree::{CType, Stat, TypedExpr};
+use c_tree::{CType, Function, Stat, TypedExpr};
 use sqlite_items::Boxed;
 
 fn conversion_depth(of: CType) -> u64
@@ -105,7 +105,7 @@ pub(crate) fn arguments(e: &TypedExpr) -> usize
 
 /// The greatest depth of some expressions, and the most arguments of their calls.
 #[derive(Clone, Copy)]
-pub(crate) struct Needs {
+pub struct Needs {
     pub depth: u64,
     pub arguments: usize,
 }
@@ -238,4 +238,12 @@ pub(crate) fn in_stat(s: &Stat) -> Needs
         Stat::Continue(_) => none(),
         Stat::Return(_, e) => in_option(e),
     }
+}
+
+/// What the full expressions of a function need. A depth from `2^64 - 1` on is given as that number.
+pub fn needs_of(f: &Function) -> Needs
+    ensures depth { result.depth ≡ capped (greatest_in depth_of f.now.body) }
+    ensures arguments { result.arguments ≡ greatest_in arguments_of f.now.body }
+{
+    in_stat(f.body.get())
 }

@@ -4,7 +4,7 @@ ghost use Rattle.std.specs.Prelude.{◌≡◌, ◌+◌, ◌*◌, ◌<◌, ◌≤
 ghost use Rattle.c_limits.specs.Sums.{capped};
 ghost use Rattle.c_limits.specs.Frames.{array_bytes, array_in, arrays, bytes_by, element_bytes, frame_bytes, object_bytes, scalar_in, scalars, word_bytes};
 
-use crate::depth::in_stat;
+use crate::depth::needs_of;
 use c_tree::{CType, Function, Object};
 use rtl_word::Word;
 
@@ -15,7 +15,8 @@ fn word_bytes<W: Word>() -> u64
     if W::BITS == 16 { 2 } else { 4 }
 }
 
-fn element_bytes<W: Word>(of: CType) -> u64
+/// The bytes of an array's element.
+pub fn element_bytes<W: Word>(of: CType) -> u64
     ensures bytes { result ≡ element_bytes W.BITS of }
     ensures small { result ≤ 4 }
 {
@@ -36,7 +37,7 @@ fn array_bytes<W: Word>(of: CType, length: u32) -> u64
 }
 
 /// The bytes that an object takes, a multiple of the word's.
-pub(crate) fn object_bytes<W: Word>(o: &Object) -> u64
+pub fn object_bytes<W: Word>(o: &Object) -> u64
     ensures bytes { result ≡ object_bytes W.BITS o.now }
     ensures fits { result < 2 ^ 40 }
 {
@@ -83,7 +84,7 @@ fn arrays<W: Word>(objects: &[Object]) -> u64
 pub fn frame_of<W: Word>(f: &Function) -> u64
     ensures { result ≡ capped (frame_bytes [] W.BITS f.now) }
 {
-    let needs = in_stat(f.body.get());
+    let needs = needs_of(f);
     let homes = (f.params.len() as u64).saturating_add(scalars(f.locals.as_slice()) as u64);
     let words = (needs.arguments as u64)
         .max(2)

@@ -12,6 +12,7 @@ mod frame;
 mod limits;
 mod weight;
 
-pub use frame::frame_of;
+pub use depth::{Needs, needs_of};
+pub use frame::{element_bytes, frame_of, object_bytes};
 pub use limits::within;
 pub use weight::weight_of;

@@ -1,5 +1,5 @@
 -- What the bytes of an image are read as.
-use Rattle.std.proofs.Common.{◌≡◌, ℕ, zero, suc, ◌+◌, ◌*◌, ◌-◌, ◌/◌, ◌%◌, ◌^◌, ◌<◌, ◌≤◌, List, [], ◌∷◌, ◌++◌, length, Option, Some, None, true, refl, sym, ap, ◌∙◌, subst, arith}
+use Rattle.std.proofs.Common.{◌≡◌, ℕ, zero, suc, ◌+◌, ◌*◌, ◌-◌, ◌/◌, ◌%◌, ◌^◌, ◌<◌, List, [], ◌∷◌, ◌++◌, length, Some, true, refl, sym, ap, ◌∙◌, subst, arith}
 use Rattle.std.specs.Prelude.{slice_index, nat_le, nat_lt, All}
 use Rattle.std.specs.Int.{byte_at, bytes_low_first}
 use Rattle.std.specs.List.{flat_map, range_with_len}
@@ -7,9 +7,9 @@ use Rattle.std.proofs.lemmas.Bool.Decides.{nat_tests}
 use Rattle.std.proofs.lemmas.List.{length-append, append_assoc}
 use Rattle.std.proofs.lemmas.List.Elements.{All-nil, All-cons, All-append, All-replicate}
 use Rattle.std.proofs.Math.Seq.{get_or-append_seam}
-use Rattle.std.proofs.Math.Nat.{div-div-eq-div-mul, div-one, mod-one, mod-lt, one-le-pow, pow-suc, mul-suc}
+use Rattle.std.proofs.Math.Nat.{div-div-eq-div-mul, div-one, mod-one, one-le-pow, pow-suc, mul-suc}
 use Rattle.std.proofs.Math.Arith.{mod-mul}
-use Rattle.rtl_effect.specs.Views.{both, word_at}
+use Rattle.rtl_effect.specs.Views.{word_at}
 use Rattle.c_tree.specs.declared.typed.Static.{Static}
 use Rattle.temp_machine.specs.Routines.{Image, Target}
 use Rattle.temp_machine.specs.Machine.{first_byte}
@@ -75,7 +75,7 @@ module _ (t : Target) (u : Image) where
       let next : u.bytes ≡ (front ++ b ∷ []) ++ (low ++ rest) = e ∙ sym (append_assoc front (b ∷ []) (low ++ rest)) in
       let at : t.base + length (front ++ b ∷ []) ≡ t.base + length front + 1 = let n = length-append front (b ∷ []) in omega (arith, n) in
       let above : word_at (first_byte t u) (t.base + length front + 1) k ≡ Some (v / 256 ^ suc i % 256 ^ k) =
-        subst (λ a. word_at (first_byte t u) a k ≡ Some (v / 256 ^ suc i % 256 ^ k)) at (low_there k (suc i) v (front ++ b ∷ []) rest next) in
+      subst (λ a. word_at (first_byte t u) a k ≡ Some (v / 256 ^ suc i % 256 ^ k)) at (low_there k (suc i) v (front ++ b ∷ []) rest next) in
       rw (here, above) (ap Some (low_first v i k))
 
   -- element j behind element i, at an address
@@ -96,7 +96,7 @@ module _ (t : Target) (u : Image) where
       let first = element_data w s i in
       let behind = flat_map (element_data w s) (range_with_len (i + 1) n) in
       let cut : u.bytes ≡ (front ++ first) ++ (behind ++ rest) =
-        e ∙ (ap (λ bs. front ++ bs) (append_assoc first behind rest) ∙ sym (append_assoc front first (behind ++ rest))) in
+      e ∙ (ap (λ bs. front ++ bs) (append_assoc first behind rest) ∙ sym (append_assoc front first (behind ++ rest))) in
       let ahead = length-append front first in
       let one = length_low 0 size (value_at w s i) in
       let more = mul-suc size j in

@@ -1,5 +1,5 @@
 -- How many bytes objects take.
-use Rattle.std.proofs.Common.{◌≡◌, ℕ, zero, suc, ◌+◌, ◌*◌, ◌-◌, ◌/◌, ◌%◌, ◌≤◌, List, [], ◌∷◌, ◌++◌, length, replicate, Option, Some, None, refl, ap, subst, arith}
+use Rattle.std.proofs.Common.{◌≡◌, ℕ, zero, suc, ◌+◌, ◌*◌, ◌/◌, ◌%◌, ◌≤◌, List, [], ◌∷◌, length, replicate, Option, Some, None, refl, ap, subst, arith}
 use Rattle.std.specs.Int.{bytes_low_first}
 use Rattle.std.specs.List.{flat_map, range_with_len}
 use Rattle.std.proofs.lemmas.List.{length-append, length-replicate}
@@ -7,7 +7,6 @@ use Rattle.std.proofs.Math.Nat.{mul-mod_left, mul-suc}
 use Rattle.rtl_word.specs.Words.{IsWordSize}
 use Rattle.rtl_word.proofs.Below.{by_size}
 use Rattle.c_tree.specs.declared.types.CType.{CType}
-use Rattle.c_tree.specs.declared.types.CType.TheVariants as type
 use Rattle.c_tree.specs.declared.typed.Object.{Object}
 use Rattle.c_tree.specs.declared.typed.Static.{Static}
 use Rattle.c_limits.specs.Frames.{word_bytes, element_bytes, rounded, bytes_by, object_bytes}
@@ -57,9 +56,10 @@ length_elements w s i (suc n) =
 pub length_object : (w : ℕ) (s : Static) → IsWordSize w → length (object_data w s) ≡ object_bytes w s.object
 length_object w s size =
     let cells = flat_map (element_data w s) (range_with_len 0 (element_count s.object)) in
-    let both = length-append cells (replicate (filling w s.object) 0) in
+    let zeros : List ℕ = replicate (filling w s.object) 0 in
+    let both = length-append cells zeros in
     let first = length_elements w s 0 (element_count s.object) in
-    let behind : length (replicate (filling w s.object) 0) ≡ filling w s.object = length-replicate (filling w s.object) 0 in
+    let behind : length zeros ≡ filling w s.object = length-replicate (filling w s.object) 0 in
     let fits = used w s.object size in
     omega (arith, both, first, behind, fits)
 

@@ -1,5 +1,5 @@
 -- Objects that are laid out in a row are placed.
-use Rattle.std.proofs.Common.{◌≡◌, ℕ, zero, suc, ◌+◌, ◌*◌, ◌-◌, ◌/◌, ◌%◌, ◌^◌, ◌<◌, ◌≤◌, List, [], ◌∷◌, ◌++◌, length, replicate, Option, Some, None, unwrap_or, refl, sym, ap, ◌∙◌, subst, arith}
+use Rattle.std.proofs.Common.{◌≡◌, ℕ, zero, suc, ◌+◌, ◌*◌, ◌-◌, ◌/◌, ◌%◌, ◌^◌, ◌<◌, ◌≤◌, List, [], ◌∷◌, ◌++◌, length, replicate, Some, None, unwrap_or, sym, ap, ◌∙◌, subst, arith}
 use Rattle.std.specs.Prelude.{slice_get, slice_index, All}
 use Rattle.std.specs.List.{flat_map, range_with_len}
 use Rattle.std.proofs.lemmas.List.{length-append, append_assoc}
@@ -13,7 +13,7 @@ use Rattle.c_meaning.specs.Run.{listed}
 use Rattle.temp_machine.specs.Routines.{Image, Target}
 use Rattle.temp_machine.specs.Machine.{first_byte}
 use Rattle.naive_run.specs.Law.{cell_bytes, element_count, HoldsStatic}
-use Rattle.naive_data.specs.Layout.{value_at, element_data, filling, object_data, data_of, size_of, addresses}
+use Rattle.naive_data.specs.Layout.{element_data, filling, object_data, data_of, size_of, addresses}
 use Rattle.naive_data.specs.Placed.{IsAddress, IsPlaced}
 use Rattle.naive_data.proofs.Lengths.{words, length_object, length_data, length_addresses}
 use Rattle.naive_data.proofs.Bytes.{data_small, element_there}
@@ -56,18 +56,18 @@ module _ (t : Target) (u : Image) (size : IsWordSize t.word) (whole : t.base % (
   found_here : (before rest : List ℕ) (a : ℕ) (s : Static) → a ≡ t.base + length before → a % (t.word / 8) ≡ 0 → u.bytes ≡ before ++ (object_data t.word s ++ rest) → Found a s
   found_here before rest a s at aligned e =
       let cells = flat_map (element_data t.word s) (range_with_len 0 (element_count s.object)) in
-      let zeros = replicate (filling t.word s.object) 0 in
+      let zeros : List ℕ = replicate (filling t.word s.object) 0 in
       let cut : u.bytes ≡ before ++ (cells ++ (zeros ++ rest)) = e ∙ ap (λ bs. before ++ bs) (append_assoc cells zeros rest) in
       let all : length u.bytes ≡ length before + (length (object_data t.word s) + length rest) =
-        ap length e ∙ (length-append before (object_data t.word s ++ rest) ∙ ap (λ n. length before + n) (length-append (object_data t.word s) rest)) in
+      ap length e ∙ (length-append before (object_data t.word s ++ rest) ∙ ap (λ n. length before + n) (length-append (object_data t.word s) rest)) in
       let long = length_object t.word s size in
       record {
         from = omega (arith, at);
         to = omega (arith, at, all, long);
         aligned = aligned;
         values = λ i v lt is.
-          let there = element_there t u t.word s (element_count s.object) 0 i (a + cell_bytes t.word s.object * i) i before (zeros ++ rest) lt (omega (arith, at)) (omega arith) cut in
-          there ∙ ap (λ o. Some (unwrap_or o 0 % 256 ^ cell_bytes t.word s.object)) is;
+            let there = element_there t u t.word s (element_count s.object) 0 i (a + cell_bytes t.word s.object * i) i before (zeros ++ rest) lt (omega (arith, at)) (omega arith) cut in
+            there ∙ ap (λ o. Some (unwrap_or o 0 % 256 ^ cell_bytes t.word s.object)) is;
       }
 
   found : (before : List ℕ) (a : ℕ) (ss : List Static) (x : ℕ) (s : Static) → a ≡ t.base + length before → a % (t.word / 8) ≡ 0 → u.bytes ≡ before ++ data_of t.word ss
@@ -76,18 +76,18 @@ module _ (t : Target) (u : Image) (size : IsWordSize t.word) (whole : t.base % (
   found before a (r ∷ ss) zero s at aligned e is =
       subst (Found a) (ap (λ o. unwrap_or o r) is) (found_here before (data_of t.word ss) a r at aligned e)
   found before a (r ∷ ss) (suc x) s at aligned e is =
-      let data = object_data t.word r in
-      let ahead = length-append before data in
+      let these = object_data t.word r in
+      let ahead = length-append before these in
       let long = length_object t.word r size in
-      let next : u.bytes ≡ (before ++ data) ++ data_of t.word ss = e ∙ sym (append_assoc before data (data_of t.word ss)) in
-      found (before ++ data) (a + object_bytes t.word r.object) ss x s (omega (arith, at, ahead, long)) (words_more t.word a (object_bytes t.word r.object) size aligned (words t.word r.object size)) next is
+      let next : u.bytes ≡ (before ++ these) ++ data_of t.word ss = e ∙ sym (append_assoc before these (data_of t.word ss)) in
+      found (before ++ these) (a + object_bytes t.word r.object) ss x s (omega (arith, at, ahead, long)) (words_more t.word a (object_bytes t.word r.object) size aligned (words t.word r.object size)) next is
 
   are_addresses : (a : ℕ) (ss : List Static) → t.base ≤ a → a % (t.word / 8) ≡ 0 → a + size_of t.word ss ≤ t.base + length u.bytes → All (IsAddress t u) (addresses t.word a ss)
   are_addresses a [] from aligned to = All-nil (IsAddress t u)
   are_addresses a (s ∷ ss) from aligned to =
       let n = object_bytes t.word s.object in
       let here : IsAddress t u a =
-        record { count = (a - t.base) / (t.word / 8); multiple = words_between t.word a t.base size from aligned whole; within = omega (arith, to) } in
+      record { count = (a - t.base) / (t.word / 8); multiple = words_between t.word a t.base size from aligned whole; within = omega (arith, to) } in
       All-cons (IsAddress t u) a (addresses t.word (a + n) ss) here
       (are_addresses (a + n) ss (omega (arith, from)) (words_more t.word a n size aligned (words t.word s.object size)) (omega (arith, to)))
 

@@ -1,5 +1,5 @@
 -- Worked objects, with their addresses and bytes.
-use Rattle.std.specs.Prelude.{◌≡◌, ℕ, List, [], ◌∷◌, Some, None}
+use Rattle.std.specs.Prelude.{◌≡◌, List, [], ◌∷◌, Some, None}
 use Rattle.c_tree.specs.declared.types.CType.TheVariants.{Schar, Int}
 use Rattle.c_tree.specs.declared.typed.Static.{Static}
 use Rattle.c_meaning.specs.Sketches.{object}

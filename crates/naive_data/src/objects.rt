@@ -5,8 +5,9 @@ ghost use Rattle.temp_machine.specs.Routines.{Image, Target};
 ghost use Rattle.naive_data.specs.Layout.{addresses, data_of, object_data, size_of};
 ghost use Rattle.naive_data.specs.Placed.{IsPlaced};
 
-use crate::sizes::{filling, object_bytes};
+use crate::sizes::filling;
 use crate::values::{push_elements, push_zeros};
+use c_limits::object_bytes;
 use c_tree::Static;
 use rtl_tree::NoMemory;
 use rtl_word::Word;

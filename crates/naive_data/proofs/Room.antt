@@ -1,12 +1,12 @@
--- Objects that pass no limit have room.
-use Rattle.std.proofs.Common.{◌≡◌, ℕ, ◌+◌, ◌≤◌, Bool, true, false, ◌||◌, List, [], ◌∷◌, refl, arith}
+-- The objects of a source within the limits have room.
+use Rattle.std.proofs.Common.{◌≡◌, ℕ, ◌+◌, ◌≤◌, Bool, true, false, ◌||◌, List, [], ◌∷◌, ◌++◌, refl, arith}
 use Rattle.std.specs.Prelude.{nat_lt}
 use Rattle.std.proofs.lemmas.Bool.Decides.{nat_tests}
 use Rattle.vp_io.specs.declared.answers.Reason.{Reason}
 use Rattle.c_tree.specs.declared.token.At.{At}
 use Rattle.c_tree.specs.declared.typed.Static.{Static}
 use Rattle.c_limits.specs.Frames.{object_bytes}
-use Rattle.c_limits.specs.Limits.{told_if, static_faults}
+use Rattle.c_limits.specs.Limits.{told_if, function_faults, static_faults}
 use Rattle.naive_data.specs.Layout.{size_of}
 use Rattle.naive_data.specs.Placed.{HaveRoom}
 
@@ -24,5 +24,11 @@ within w room n before (s ∷ ss) le e =
     let rest = within w room (n + 1) taken ss fits told.1 in
     omega (arith, rest)
 
+nothing_behind : (rs ss : List Reason) → rs ++ ss ≡ [] → ss ≡ []
+nothing_behind [] ss e = e
+nothing_behind (r ∷ rs) ss e = absurd (cc)
+
 pub have_room : HaveRoom
-have_room w room ss e = let h = within w room 0 0 ss (omega arith) e in omega (arith, h)
+have_room kept w room source e =
+    let h = within w room 0 0 source.statics (omega arith) (nothing_behind (function_faults kept w 0 source.functions) (static_faults w room 0 0 source.statics) e) in
+    omega (arith, h)

@@ -1,8 +1,9 @@
 -- What an image has of the objects of the file.
 use Rattle.std.specs.Prelude.{◌≡◌, ℕ, ◌+◌, ◌*◌, ◌/◌, ◌^◌, ◌<◌, ◌≤◌, List, [], length, slice_get, slice_index, Some, All}
 use Rattle.c_tree.specs.declared.typed.Static.{Static}
+use Rattle.c_tree.specs.declared.typed.Typed.{Typed}
 use Rattle.c_limits.specs.Frames.{object_bytes}
-use Rattle.c_limits.specs.Limits.{static_faults}
+use Rattle.c_limits.specs.Limits.{limit_faults}
 use Rattle.temp_machine.specs.Routines.{Image, Target}
 use Rattle.naive_run.specs.Law.{HoldsStatic}
 use Rattle.naive_data.specs.Layout.{size_of}
@@ -24,6 +25,6 @@ pub record IsPlaced (t : Target) (u : Image) (ss : List Static) : Type 0 where
   pub apart : (x y : ℕ) (s r : Static) → x < y → slice_get ss x ≡ Some s → slice_get ss y ≡ Some r
       → slice_index u.symbols x + object_bytes t.word s.object ≤ slice_index u.symbols y
 
--- objects that pass no limit have room
+-- the objects of a source within the limits have room
 abbrev pub HaveRoom : Type 0
-HaveRoom = (w room : ℕ) (ss : List Static) → static_faults w room 0 0 ss ≡ [] → size_of w ss ≤ room
+HaveRoom = (kept : List ℕ) (w room : ℕ) (source : Typed) → limit_faults kept w room source ≡ [] → size_of w source.statics ≤ room

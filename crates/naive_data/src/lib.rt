@@ -8,7 +8,7 @@
 //! - `sizes`: how many bytes objects take.
 //! - `values`: elements and their bytes.
 //! - `objects`: objects in a row.
-//! - `law`: objects within the limits have room; the worked objects.
+//! - `law`: the objects of a source within the limits have room; the worked objects.
 #![tactic(auto)]
 
 mod law;

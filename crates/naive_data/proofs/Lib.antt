@@ -1,0 +1,6 @@
+mod Lengths
+mod Bytes
+mod Placing
+mod Pushing
+mod Room
+mod WorkedObjects

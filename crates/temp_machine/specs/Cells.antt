@@ -1,5 +1,5 @@
 -- The cells that a transfer reads and sets, and what a temporary stands in.
-use Rattle.std.specs.Prelude.{ℕ, ◌||◌, Bool, true, false, List}
+use Rattle.std.specs.Prelude.{ℕ, ◌||◌, ◌&&◌, not, Bool, true, false, List}
 use Rattle.std.specs.List.{list_any}
 use Rattle.rtl_tree.specs.declared.cells.Cell.{Cell}
 use Rattle.rtl_tree.specs.declared.cells.Cell.TheVariants.{Hard, Temp, Flag, Input}
@@ -63,3 +63,14 @@ uses p r = list_any (λ b. list_any (mentions p) (block_transfers b)) r.blocks
 -- whether a temporary stands in the code
 abbrev pub has_temporaries : Routine → Bool
 has_temporaries r = uses is_temporary r
+
+-- A row may lose flags that nobody asks for, and what it assigns to them may read what it sets. So what a transfer reads beside such
+-- assignments stands apart from what it reads for one flag.
+abbrev pub move_reads : Cell → Move → Bool
+move_reads c m = some_goal_cell (same_cell c) m.to || some_cell (same_cell c) m.value
+
+abbrev pub reads_beside_flags : Cell → List Move → Bool
+reads_beside_flags c ms = list_any (λ m. not (sets_by is_flag m.to) && move_reads c m) ms
+
+abbrev pub reads_for_flag : ℕ → Cell → List Move → Bool
+reads_for_flag n c ms = list_any (λ m. sets_by (same_cell (Flag n)) m.to && move_reads c m) ms

@@ -1,10 +1,10 @@
--- Which cells are live at a place: some path of the flow reaches a read before a set.
+-- Which cells are live at a place: some path of the flow reaches a read before a set. A read for a flag counts where that flag is read.
 use Rattle.std.specs.Prelude.{◌≡◌, ◌≢◌, ℕ, zero, suc, ◌==◌, ◌||◌, ◌&&◌, not, Bool, true, false, List, [], ◌∷◌, slice_get, slice_index, Option, Some, None, Contains}
 use Rattle.rtl_tree.specs.declared.cells.Cell.{Cell}
 use Rattle.rtl_tree.specs.declared.cells.Cell.TheVariants.{Hard, Temp, Flag, Pc, Input, Output, Halt}
 use Rattle.rtl_tree.specs.Moves.{Move}
 use Rattle.temp_machine.specs.Routines.{Exit, Falls, Jumps, Branches, Calls, Returns, BasicBlock, Routine, Target}
-use Rattle.temp_machine.specs.Cells.{reads, sets, has_temporaries}
+use Rattle.temp_machine.specs.Cells.{reads_beside_flags, reads_for_flag, sets, has_temporaries}
 use Rattle.temp_machine.specs.Machine.{is_kept}
 use Rattle.temp_machine.specs.Flow.{successors}
 
@@ -26,11 +26,17 @@ is_lost_by_call t _ = false
 -- what the end of a block reads and sets; a return reads the result register
 abbrev pub exit_reads : Target → Exit → Cell → Bool
 exit_reads t Falls c = false
-exit_reads t (Jumps ms) c = reads c ms
-exit_reads t (Branches ms) c = reads c ms
-exit_reads t (Calls ms) c = reads c ms
+exit_reads t (Jumps ms) c = reads_beside_flags c ms
+exit_reads t (Branches ms) c = reads_beside_flags c ms
+exit_reads t (Calls ms) c = reads_beside_flags c ms
 exit_reads t Returns (Hard n) = n == t.result
 exit_reads t Returns c = false
+
+-- what it reads for a flag that is there afterwards
+abbrev pub exit_reads_for : ℕ → Exit → Cell → Bool
+exit_reads_for n (Jumps ms) c = reads_for_flag n c ms
+exit_reads_for n (Branches ms) c = reads_for_flag n c ms
+exit_reads_for n _ c = false
 
 abbrev pub exit_sets : Target → Exit → Cell → Bool
 exit_sets t Falls c = false
@@ -63,8 +69,12 @@ abbrev pub item_at : Routine → Place → Option Item
 item_at r p = item_of (slice_get r.blocks p.block) p.at
 
 abbrev pub item_reads : Target → Cell → Item → Bool
-item_reads t c (Transfer ms) = reads c ms
+item_reads t c (Transfer ms) = reads_beside_flags c ms
 item_reads t c (End e) = exit_reads t e c
+
+abbrev pub item_reads_for : ℕ → Cell → Item → Bool
+item_reads_for n c (Transfer ms) = reads_for_flag n c ms
+item_reads_for n c (End e) = exit_reads_for n e c
 
 abbrev pub item_sets : Target → Cell → Item → Bool
 item_sets t c (Transfer ms) = sets c ms
@@ -77,10 +87,12 @@ pub data IsNext (w : ℕ) (r : Routine) : Place → Place → Type 0 where
   across : (block at next : ℕ) (e : Exit) → item_at r (record { block = block; at = at }) ≡ Some (End e) → Contains (successors w r block) next
       → IsNext w r (record { block = block; at = at }) (record { block = next; at = 0 })
 
--- some path from the place reaches a read of the cell before a set of it
-pub data IsRead (t : Target) (r : Routine) (c : Cell) : Place → Type 0 where
-  here : (p : Place) (x : Item) → item_at r p ≡ Some x → item_reads t c x ≡ true → IsRead t r c p
-  later : (p next : Place) (x : Item) → item_at r p ≡ Some x → item_sets t c x ≡ false → IsNext t.word r p next → IsRead t r c next → IsRead t r c p
+-- some path from the place reaches a read of the cell before a set of it: for another cell than a flag, or for a flag that is read in turn
+pub data IsRead (t : Target) (r : Routine) : Cell → Place → Type 0 where
+  here : (c : Cell) (p : Place) (x : Item) → item_at r p ≡ Some x → item_reads t c x ≡ true → IsRead t r c p
+  for_flag : (c : Cell) (n : ℕ) (p next : Place) (x : Item) → item_at r p ≡ Some x → item_reads_for n c x ≡ true → IsNext t.word r p next
+      → IsRead t r (Flag n) next → IsRead t r c p
+  later : (c : Cell) (p next : Place) (x : Item) → item_at r p ≡ Some x → item_sets t c x ≡ false → IsNext t.word r p next → IsRead t r c next → IsRead t r c p
 
 -- a cell is live at a place
 pub data IsLive (t : Target) (r : Routine) (c : Cell) (p : Place) : Type 0 where

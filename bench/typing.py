@@ -2,8 +2,8 @@
 """Times the front end of C, `c_source::tree_of` and `c_types::type_program`, on growing sources, and prints a table with the ratios of one run.
 
 No command of the program goes through typing yet, so a small program is made and built in a temporary folder, with the repository's crates
-beside it: by `rt run`, which takes over what was proved of them on this machine, or with `--unproved` by `rt try`, which proves nothing and
-compiles with checks, so that its times are a hundred times longer; there the sources have a thirty-second part of the size. The program reads all sources and
+beside it: by `rt run`, over the libraries that `rt ci` left in the crates' folders (without them it proves all that it stands on), or with `--unproved` by `rt try`, which
+proves nothing and compiles with checks, so that its times are a hundred times longer; there the sources have a thirty-second part of the size. The program reads all sources and
 prints for each how long its parts took, which leaves out the start of the process and the reading.
 
 The sources have up to 1 MiB: many functions; one function of many statements; blocks that nest to the limit, each with names of its own
@@ -110,9 +110,14 @@ def cases(size):
     return repeated("int main(void){switch(1){", lambda n: f"case {n}:;", "}}", size)
 
 
+def not_copied(folder, names):
+    """Of what was made of a crate its library alone is taken along."""
+    return [name for name in names if name != "rlib"] if os.path.basename(folder) == "out" else []
+
+
 def folder_of(temporary):
-    """The repository's crates, and the program."""
-    shutil.copytree(os.path.join(ROOT, "crates"), os.path.join(temporary, "crates"), ignore=shutil.ignore_patterns("out"))
+    """The repository's crates with their libraries, and the program."""
+    shutil.copytree(os.path.join(ROOT, "crates"), os.path.join(temporary, "crates"), ignore=not_copied)
     shutil.copy(os.path.join(ROOT, "HANDLES"), temporary)
     source = os.path.join(temporary, "crates", "typist", "src")
     os.makedirs(source)

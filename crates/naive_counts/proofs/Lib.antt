@@ -1,5 +1,5 @@
 mod Longest
-mod Folds
+pub mod Folds
 mod Expressions
 mod Statements
 mod Functions

@@ -1,0 +1,12 @@
+pub mod Lists
+pub mod Passing
+pub mod Values
+pub mod Places
+pub mod Calls
+pub mod Storages
+pub mod Nodes
+pub mod Steps
+pub mod Loops
+pub mod Statements
+pub mod Functions
+pub mod Naming

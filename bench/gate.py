@@ -68,7 +68,8 @@ class Meter:
             found = processes()
             for number, (_, seconds, start) in found.items():
                 key = number, start
-                if key not in self.works:
+                # a process that was only just forked isn't its program yet, so it is looked at again
+                if not self.works.get(key):
                     self.works[key] = work_of(number) if is_below(number, self.top, found) else None
                 if self.works[key]:
                     self.seconds[key] = seconds

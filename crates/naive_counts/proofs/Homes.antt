@@ -1,12 +1,12 @@
 -- Each temporary has a home, among the slots of the function.
-use Rattle.std.proofs.Common.{◌≡◌, ℕ, zero, suc, ◌+◌, ◌≤◌, ◌<◌, List, [], ◌∷◌, ◌++◌, map, refl, ap, arith}
+use Rattle.std.proofs.Common.{◌≡◌, ℕ, zero, suc, ◌+◌, ◌≤◌, ◌<◌, ◌⊎◌, inl, inr, true, List, [], ◌∷◌, ◌++◌, map, refl, ap, arith}
 use Rattle.std.specs.Prelude.{length, All}
 use Rattle.std.proofs.lemmas.List.{length-append, length-map}
 use Rattle.std.proofs.lemmas.List.Elements.{All-cons, All-nil}
 use Rattle.c_limits.specs.Depths.{greatest_in, depth_of}
 use Rattle.naive_code.specs.Storage.{scalar_count}
 use Rattle.naive_code.specs.Functions.{site_of, body_steps, numbers_from, function_homes, slots_of}
-use Rattle.naive_counts.specs.Homes.{HomesAreSlots}
+use Rattle.naive_counts.specs.Homes.{fills_lists, HomesAreSlots}
 use Rattle.naive_counts.proofs.Depths.{Below, below_append}
 use Rattle.naive_counts.proofs.Deepest.{statement_held}
 
@@ -27,7 +27,7 @@ moved_below k n [] h = tt
 moved_below k n (x ∷ xs) h = (let e = h.0 in omega (arith, e), moved_below k n xs h.1)
 
 pub homes_are_slots : HomesAreSlots
-homes_are_slots kept w t f = record { count = count; among = among }
+homes_are_slots kept w t f = record { count = count; among = λ some. among (inr some); among_filled = λ filled. among (inl filled) }
   where
     count : length (function_homes kept w t f) ≡ scalar_count f + (body_steps kept w t f).temps + 1
     count =
@@ -35,10 +35,10 @@ homes_are_slots kept w t f = record { count = count; among = among }
         let g = greatest_in depth_of f.body in
         let first = numbers_from 16 (scalar_count f) in let second = map (λ d. 16 + scalar_count f + d) (body.depths ++ 0 ∷ []) in
         let e = length-append first second in let e1 = numbers_many 16 (scalar_count f) in let e2 = length-map (body.depths ++ 0 ∷ []) (λ d. 16 + scalar_count f + d) in let e3 = length-append body.depths (0 ∷ []) in
-        let e4 = ((statement_held (site_of kept w t f) f.locals f.body).each (g + 1) (omega arith) (omega arith)).many in
+        let e4 = ((statement_held (site_of kept w t f) f.locals f.body).each (g + 1) (inr (omega arith)) (omega arith)).many in
         omega (arith, e, e1, e2, e3, e4)
 
-    among : 1 ≤ greatest_in depth_of f.body → All (λ h. h < slots_of f) (function_homes kept w t f)
+    among : (fills_lists f.body ≡ true) ⊎ (1 ≤ greatest_in depth_of f.body) → All (λ h. h < slots_of f) (function_homes kept w t f)
     among some =
         let body = body_steps kept w t f in
         let g = greatest_in depth_of f.body in

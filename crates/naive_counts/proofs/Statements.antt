@@ -22,21 +22,22 @@ use Rattle.naive_code.specs.Storage.{Symbol, Frame, Storage, Temporary, Word, El
 use Rattle.naive_code.specs.Expressions.{Site, naive, put_into, put_at}
 use Rattle.naive_code.specs.Statements as steps
 use Rattle.naive_code.specs.Statements.{Around, Steps, no_steps, joined, all_joined, used, dropped, enclosed, shifted}
-use Rattle.naive_counts.specs.Counts.{most_in}
+use Rattle.naive_counts.specs.Counts.{most_with}
 use Rattle.naive_counts.specs.Names.{all_true, expression_names, option_names, list_names, init_names, locals_names, start_names, names_by, names_scalars}
 use Rattle.naive_counts.proofs.Longest.{most_append}
 use Rattle.naive_counts.proofs.Folds.{Three, statements_relate}
 use Rattle.naive_counts.proofs.Expressions.{both_so, put_most, put_into_most, site, expression_within}
 
-module _ (kept : List ℕ) (w : ℕ) (t : Typed) (f : Function) where
+-- where a return counts as so many transfers
+module _ (kept : List ℕ) (w : ℕ) (t : Typed) (f : Function) (per : ℕ) (small : per ≤ 3 + length kept) where
   abbrev here : Site
-  here = site kept w t f
+  here = site per kept w t f
 
   abbrev valued : List (Option ℕ × ℕ) → ℕ
   valued = steps.valued here f.locals
 
   pub record Takes (p : Steps) (n : ℕ) : Type 0 where
-    pub ops : (a : Around) (first label : ℕ) → most_in (p.ops a first label) + 3 * valued p.cases ≤ n
+    pub ops : (a : Around) (first label : ℕ) → most_with per (p.ops a first label) + 3 * valued p.cases ≤ n
 
   more : (p : Steps) (n m : ℕ) → n ≤ m → Takes p n → Takes p m
   more p n m le h = record { ops = λ a first label. let g = h.ops a first label in omega (arith, g, le) }
@@ -53,7 +54,7 @@ module _ (kept : List ℕ) (w : ℕ) (t : Typed) (f : Function) where
   valued_shifted n ((Some v, k) ∷ xs) = ap suc (valued_shifted n xs)
   valued_shifted n ((None, k) ∷ xs) = valued_shifted n xs
 
-  dispatched_most : (r base first label : ℕ) (cs : List (Option ℕ × ℕ)) → most_in (steps.dispatched here f.locals r base first label cs) ≡ 3 * valued cs
+  dispatched_most : (r base first label : ℕ) (cs : List (Option ℕ × ℕ)) → most_with per (steps.dispatched here f.locals r base first label cs) ≡ 3 * valued cs
   dispatched_most r base first label [] = refl
   dispatched_most r base first label ((Some v, k) ∷ cs) = let e = dispatched_most r base (first + 1) (label + 1) cs in omega (arith, e)
   dispatched_most r base first label ((None, k) ∷ cs) = dispatched_most r base first label cs
@@ -66,29 +67,29 @@ module _ (kept : List ℕ) (w : ℕ) (t : Typed) (f : Function) where
   joined_takes : (p q : Steps) (n m : ℕ) → Takes p n → Takes q m → Takes (joined p q) (n + m)
   joined_takes p q n m g h = record {
     ops = λ a first label.
-        let e = most_append (p.ops a first label) (q.ops a (first + p.temps) (label + p.labels)) in
+        let e = most_append per (p.ops a first label) (q.ops a (first + p.temps) (label + p.labels)) in
         let e1 = valued_append p.cases (map (shifted p.labels) q.cases) in let e2 = valued_shifted p.labels q.cases in
         let x = g.ops a first label in let y = h.ops a (first + p.temps) (label + p.labels) in
         omega (arith, e, e1, e2, x, y);
   }
 
   abbrev Values : TypedExpr → Type 0
-  Values e = (a l : ℕ) → most_in ((naive here e).value.ops a l) ≤ expr_weight e
+  Values e = (a l : ℕ) → most_with per ((naive here e).value.ops a l) ≤ expr_weight e
 
   value_of : (e : TypedExpr) → expression_names t f e ≡ true → Values e
-  value_of e so = (expression_within kept w t f e so).value
+  value_of e so = (expression_within per kept w t f e so).value
 
-  test_of : (e : TypedExpr) → expression_names t f e ≡ true → (sense : Bool) (target next a l : ℕ) → most_in ((naive here e).test.ops sense target next a l) ≤ expr_weight e + 3
-  test_of e so = (expression_within kept w t f e so).test
+  test_of : (e : TypedExpr) → expression_names t f e ≡ true → (sense : Bool) (target next a l : ℕ) → most_with per ((naive here e).test.ops sense target next a l) ≤ expr_weight e + 3
+  test_of e so = (expression_within per kept w t f e so).test
 
   dropped_takes : (e : TypedExpr) → Values e → Takes (dropped (naive here e).value) (expr_weight e)
   dropped_takes e h = record { ops = λ a first label. let g = h first label in omega (arith, g) }
 
-  used_takes : (e : TypedExpr) (depths : List ℕ) (os : ℕ → ℕ → List Op) (n : ℕ) → Values e → ((r s : ℕ) → most_in (os r s) ≤ n) → Takes (used (naive here e).value depths os) (n + expr_weight e)
+  used_takes : (e : TypedExpr) (depths : List ℕ) (os : ℕ → ℕ → List Op) (n : ℕ) → Values e → ((r s : ℕ) → most_with per (os r s) ≤ n) → Takes (used (naive here e).value depths os) (n + expr_weight e)
   used_takes e depths os n h g = record {
     ops = λ a first label.
         let v = (naive here e).value in
-        let x = most_append (v.ops first label) (os (v.result first) (first + v.temps)) in
+        let x = most_append per (v.ops first label) (os (v.result first) (first + v.temps)) in
         let y = h first label in let z = g (v.result first) (first + v.temps) in
         omega (arith, x, y, z);
   }
@@ -98,7 +99,7 @@ module _ (kept : List ℕ) (w : ℕ) (t : Typed) (f : Function) where
   put_element_takes : (s : Storage) (i : ℕ) (e : TypedExpr) → Values e → Takes (steps.put_element w s i (naive here e).value) (12 + expr_weight e)
   put_element_takes (Elements (Frame offset) of) i e h =
       more _ (4 + expr_weight e) (12 + expr_weight e) (omega arith)
-      (used_takes e (1 ∷ 2 ∷ []) (λ r s. read_stack s ∷ constant (s + 1) (offset + i * element_bytes w of) ∷ add s (s + 1) ∷ put_at of s r) 4 h (λ r s. let p = put_most of s r in omega (arith, p)))
+      (used_takes e (1 ∷ 2 ∷ []) (λ r s. read_stack s ∷ constant (s + 1) (offset + i * element_bytes w of) ∷ add s (s + 1) ∷ put_at of s r) 4 h (λ r s. let p = put_most per of s r in omega (arith, p)))
   put_element_takes (Elements (Symbol y) of) i e h = more _ 0 _ (omega arith) no_takes
   put_element_takes (Temporary n) i e h = more _ 0 _ (omega arith) no_takes
   put_element_takes (Word y) i e h = more _ 0 _ (omega arith) no_takes
@@ -114,8 +115,8 @@ module _ (kept : List ℕ) (w : ℕ) (t : Typed) (f : Function) where
   cleared_takes : (s : Storage) (from to : ℕ) → Takes (steps.cleared w s from to) 24
   cleared_takes (Elements (Frame offset) of) from to = record {
     ops = λ a first label.
-        let e = most_append (put_at of first (first + 4)) (add first (first + 5) ∷ Close (Branches Ne first (first + 1) label) (label + 1) ∷ []) in
-        let p = put_most of first (first + 4) in
+        let e = most_append per (put_at of first (first + 4)) (add first (first + 5) ∷ Close (Branches Ne first (first + 1) label) (label + 1) ∷ []) in
+        let p = put_most per of first (first + 4) in
         omega (arith, e, p);
   }
   cleared_takes (Elements (Symbol y) of) from to = more _ 0 _ (omega arith) no_takes
@@ -133,7 +134,7 @@ module _ (kept : List ℕ) (w : ℕ) (t : Typed) (f : Function) where
   init_takes : (x : ℕ) (i : LocalInit) → init_names t f i ≡ true → Takes (steps.init_steps here f.locals x i) (init_weight (length_of (slice_get f.locals x)) i)
   init_takes x init.Absent so = no_takes
   init_takes x (init.Value e) so =
-      used_takes e (1 ∷ []) (λ r s. put_into (steps.storage_of_local here x) 0 r s) 2 (value_of e so) (λ r s. put_into_most (steps.storage_of_local here x) 0 r s)
+      used_takes e (1 ∷ []) (λ r s. put_into (steps.storage_of_local here x) 0 r s) 2 (value_of e so) (λ r s. put_into_most per (steps.storage_of_local here x) 0 r s)
   init_takes x (init.List es) so =
       joined_takes (steps.put_elements here (steps.storage_of_local here x) 0 es) (steps.cleared_rest w (steps.storage_of_local here x) (length es) (length_of (slice_get f.locals x))) (each_of 12 es) _
       (put_elements_take (steps.storage_of_local here x) 0 es so) (cleared_rest_takes (steps.storage_of_local here x) (length es) (length_of (slice_get f.locals x)))
@@ -153,18 +154,18 @@ module _ (kept : List ℕ) (w : ℕ) (t : Typed) (f : Function) where
   started_takes (start.Value e) so = dropped_takes e (value_of e so)
   started_takes (start.Declared at ls) so = locals_take ls so
 
-  test_in_most : (o : Option TypedExpr) → option_names t f o ≡ true → (sense : Bool) (target next a l : ℕ) → most_in ((steps.test_in here f.locals o).ops sense target next a l) ≤ option_weight o + 3
+  test_in_most : (o : Option TypedExpr) → option_names t f o ≡ true → (sense : Bool) (target next a l : ℕ) → most_with per ((steps.test_in here f.locals o).ops sense target next a l) ≤ option_weight o + 3
   test_in_most None so sense target next a l = omega arith
   test_in_most (Some e) so sense target next a l = test_of e so sense target next a l
 
   -- ---- statements
 
   -- without cases
-  alone : (p : Steps) (n : ℕ) → p.cases ≡ [] → ((a : Around) (first label : ℕ) → most_in (p.ops a first label) ≤ n) → Takes p n
+  alone : (p : Steps) (n : ℕ) → p.cases ≡ [] → ((a : Around) (first label : ℕ) → most_with per (p.ops a first label) ≤ n) → Takes p n
   alone p n e h = record { ops = λ a first label. let z : valued p.cases ≡ 0 = ap valued e in let g = h a first label in omega (arith, z, g) }
 
   abbrev Code_in : Steps → ℕ → Type 0
-  Code_in p n = (a : Around) (first label : ℕ) → most_in (p.ops a first label) ≤ n
+  Code_in p n = (a : Around) (first label : ℕ) → most_with per (p.ops a first label) ≤ n
 
   code_of : (p : Steps) (n : ℕ) → Takes p n → Code_in p n
   code_of p n h a first label = let g = h.ops a first label in omega (arith, g)
@@ -173,7 +174,7 @@ module _ (kept : List ℕ) (w : ℕ) (t : Typed) (f : Function) where
   if_takes e p n so h = alone _ _ refl (λ a first label.
       let x = (naive here e).test in
       let o1 = x.ops false label (label + 1) first (label + 2) in let o2 = p.ops a (first + x.temps) (label + 2 + x.labels) in
-      let z = most_append o1 (o2 ++ Close Falls label ∷ []) in let z1 = most_append o2 (Close Falls label ∷ []) in
+      let z = most_append per o1 (o2 ++ Close Falls label ∷ []) in let z1 = most_append per o2 (Close Falls label ∷ []) in
       let g = test_of e so false label (label + 1) first (label + 2) in let g1 = code_of p n h a (first + x.temps) (label + 2 + x.labels) in
       omega (arith, z, z1, g, g1))
 
@@ -184,7 +185,7 @@ module _ (kept : List ℕ) (w : ℕ) (t : Typed) (f : Function) where
       let o2 = p.ops a (first + x.temps) (label + 3 + x.labels) in
       let o3 = q.ops a (first + x.temps + p.temps) (label + 3 + x.labels + p.labels) in
       let last = Close Falls (label + 2) ∷ [] in
-      let z = most_append o1 (o2 ++ Close (Jumps (label + 2)) label ∷ (o3 ++ last)) in let z1 = most_append o2 (Close (Jumps (label + 2)) label ∷ (o3 ++ last)) in let z2 = most_append o3 last in
+      let z = most_append per o1 (o2 ++ Close (Jumps (label + 2)) label ∷ (o3 ++ last)) in let z1 = most_append per o2 (Close (Jumps (label + 2)) label ∷ (o3 ++ last)) in let z2 = most_append per o3 last in
       let g = test_of e so false label (label + 1) first (label + 3) in
       let g1 = code_of p n h a (first + x.temps) (label + 3 + x.labels) in
       let g2 = code_of q m k a (first + x.temps + p.temps) (label + 3 + x.labels + p.labels) in
@@ -196,7 +197,7 @@ module _ (kept : List ℕ) (w : ℕ) (t : Typed) (f : Function) where
       let b : Around = record { breaks = label; continues = label + 1 } in
       let o1 = x.ops false label (label + 2) first (label + 3) in let o2 = p.ops b (first + x.temps) (label + 3 + x.labels) in
       let last = Close (Jumps (label + 1)) label ∷ [] in
-      let z = most_append o1 (o2 ++ last) in let z1 = most_append o2 last in
+      let z = most_append per o1 (o2 ++ last) in let z1 = most_append per o2 last in
       let g = test_of e so false label (label + 2) first (label + 3) in let g1 = code_of p n h b (first + x.temps) (label + 3 + x.labels) in
       omega (arith, z, z1, g, g1))
 
@@ -205,7 +206,7 @@ module _ (kept : List ℕ) (w : ℕ) (t : Typed) (f : Function) where
       let x = (naive here e).test in
       let b : Around = record { breaks = label; continues = label + 2 } in
       let o1 = p.ops b first (label + 3) in let o2 = x.ops true (label + 1) label (first + p.temps) (label + 3 + p.labels) in
-      let z = most_append o1 (Close Falls (label + 2) ∷ o2) in
+      let z = most_append per o1 (Close Falls (label + 2) ∷ o2) in
       let g = test_of e so true (label + 1) label (first + p.temps) (label + 3 + p.labels) in let g1 = code_of p n h b first (label + 3) in
       omega (arith, z, g, g1))
 
@@ -218,8 +219,8 @@ module _ (kept : List ℕ) (w : ℕ) (t : Typed) (f : Function) where
       let l1 = label + 4 + begin.labels in let l2 = l1 + x.labels in let l3 = l2 + p.labels in
       let o1 = begin.ops a first (label + 4) in let o2 = x.ops false label (label + 2) t1 l1 in let o3 = p.ops b t2 l2 in let o4 = step.ops a t3 l3 in
       let last = Close (Jumps (label + 1)) label ∷ [] in
-      let z = most_append o1 (Close Falls (label + 1) ∷ (o2 ++ (o3 ++ Close Falls (label + 3) ∷ (o4 ++ last)))) in
-      let z1 = most_append o2 (o3 ++ Close Falls (label + 3) ∷ (o4 ++ last)) in let z2 = most_append o3 (Close Falls (label + 3) ∷ (o4 ++ last)) in let z3 = most_append o4 last in
+      let z = most_append per o1 (Close Falls (label + 1) ∷ (o2 ++ (o3 ++ Close Falls (label + 3) ∷ (o4 ++ last)))) in
+      let z1 = most_append per o2 (o3 ++ Close Falls (label + 3) ∷ (o4 ++ last)) in let z2 = most_append per o3 (Close Falls (label + 3) ∷ (o4 ++ last)) in let z3 = most_append per o4 last in
       let g = code_of begin _ (started_takes s so_s) a first (label + 4) in let g1 = test_in_most e so_e false label (label + 2) t1 l1 in
       let g2 = code_of p n h b t2 l2 in let g3 = code_of step _ (evaluated_takes o so_o) a t3 l3 in
       omega (arith, z, z1, z2, z3, g, g1, g2, g3))
@@ -234,7 +235,7 @@ module _ (kept : List ℕ) (w : ℕ) (t : Typed) (f : Function) where
       let o3 = p.ops b (first + v.temps + k) base in
       let last = Close Falls label ∷ [] in
       let jump = Close (Jumps (steps.otherwise here f.locals base label p.cases)) (label + 1) in
-      let z = most_append o1 (o2 ++ jump ∷ (o3 ++ last)) in let z1 = most_append o2 (jump ∷ (o3 ++ last)) in let z2 = most_append o3 last in
+      let z = most_append per o1 (o2 ++ jump ∷ (o3 ++ last)) in let z1 = most_append per o2 (jump ∷ (o3 ++ last)) in let z2 = most_append per o3 last in
       let g = value_of e so first (label + 2 + k) in let g1 = dispatched_most (v.result first) base (first + v.temps) (label + 2) p.cases in
       let g2 = h.ops b (first + v.temps + k) base in
       omega (arith, z, z1, z2, g, g1, g2))
@@ -250,10 +251,10 @@ module _ (kept : List ℕ) (w : ℕ) (t : Typed) (f : Function) where
   }
 
   return_takes : (o : Option TypedExpr) → option_names t f o ≡ true → Takes (steps.return_steps here f.locals o) (4 + length kept + option_weight o)
-  return_takes None so = alone _ _ refl (λ a first label. omega arith)
+  return_takes None so = alone _ _ refl (λ a first label. omega (arith, small))
   return_takes (Some e) so =
-      more _ (1 + expr_weight e + 0) _ (omega arith)
-      (joined_takes (used (naive here e).value [] (λ r s. set_result r ∷ [])) (steps.leaving here f.locals (λ a. code.Returns)) (1 + expr_weight e) 0
+      more _ (1 + expr_weight e + per) _ (omega (arith, small))
+      (joined_takes (used (naive here e).value [] (λ r s. set_result r ∷ [])) (steps.leaving here f.locals (λ a. code.Returns)) (1 + expr_weight e) per
       (used_takes e [] (λ r s. set_result r ∷ []) 1 (value_of e so) (λ r s. omega arith)) (alone _ _ refl (λ a first label. omega arith)))
 
   -- ---- all of them
@@ -289,6 +290,6 @@ module _ (kept : List ℕ) (w : ℕ) (t : Typed) (f : Function) where
   node_within (stat.Continue at) so = alone _ _ refl (λ a first label. omega arith)
   node_within (stat.Return at e) so = return_takes e so
 
-  pub statement_within : (s : Stat) → names_scalars t f s ≡ true → (a : Around) (first label : ℕ) → most_in ((steps.steps_of here f.locals s).ops a first label) ≤ stat_weight kept f.locals s
+  pub statement_within : (s : Stat) → names_scalars t f s ≡ true → (a : Around) (first label : ℕ) → most_with per ((steps.steps_of here f.locals s).ops a first label) ≤ stat_weight kept f.locals s
   statement_within s so a first label =
       code_of _ _ (statements_relate Steps ℕ Bool Within (steps.node_steps here f.locals) (statement_weight kept f.locals) (names_by t f) node_within s so) a first label

@@ -1,0 +1,15 @@
+mod Leading
+mod ExpressionsLead
+mod StatementsLead
+mod FunctionsLead
+mod Tests
+mod Transfers
+mod Blocks
+mod Places
+mod Tidy
+mod Framed
+mod Rooms
+mod Wholes
+mod Functions
+mod Images
+mod Five

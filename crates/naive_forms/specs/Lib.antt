@@ -1,0 +1,4 @@
+pub mod Operations
+pub mod Codes
+pub mod Images
+pub mod Example

@@ -40,7 +40,7 @@ module _ (depth : ℕ → Option ℕ) (scalars : ℕ) where
       let x = h.0.each xs d t l b (deep_first depth scalars t (a.depths d) (others.depths (d + 1)) k) in
       let r = a.result t in
       let y = arguments_live rest h.1 (r ∷ xs) (d + 1) (t + a.temps) (l + a.labels) (stacked depth d r xs x.deep b)
-        (deep_second depth scalars t a.temps (a.depths d) (others.depths (d + 1)) (h.0.many d) k) in
+      (deep_second depth scalars t a.temps (a.depths d) (others.depths (d + 1)) (h.0.many d) k) in
       record {
         behind = y.behind;
         marks = x.marks ++ y.marks;

@@ -100,7 +100,7 @@ module _ (depth : ℕ → Option ℕ) (scalars : ℕ) where
   unary_node of unary.Complement a b h g =
       let v = then_on a.value 0 (λ d. []) (λ v t. complement v ∷ []) in
       let k = then_on_stacked depth scalars a.value 0 (λ d. []) (λ v t. complement v ∷ []) h (λ d. refl)
-        (λ env xs d v t b e m. only depth scalars env (complement v) (v ∷ xs) (v ∷ xs) (refl, inr (inl refl), within_same (v ∷ xs))) in
+      (λ env xs d v t b e m. only depth scalars env (complement v) (v ∷ xs) (v ∷ xs) (refl, inr (inl refl), within_same (v ∷ xs))) in
       logical_node of v (test_of v) b k (test_of_stacked depth scalars v k)
   unary_node of unary.Not a b h g =
       let k = denied_stacked depth scalars a.test g in logical_node of (value_of (naive.denied a.test)) (naive.denied a.test) b (value_of_stacked depth scalars (naive.denied a.test) k) k

@@ -10,3 +10,5 @@ pub mod Loops
 pub mod Statements
 pub mod Functions
 pub mod Naming
+pub mod Sound
+pub mod WorkedLives

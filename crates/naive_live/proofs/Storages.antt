@@ -24,7 +24,7 @@ pub both_so : (a b : Bool) → (a && b) ≡ true → (a ≡ true) × (b ≡ true
 both_so true b e = (refl, e)
 both_so false b e = absurd (clash e)
 
-all_at : {A : Type 0} (p : A → Bool) (xs : List A) (i : ℕ) (x : A) → list_all p xs ≡ true → slice_get xs i ≡ Some x → p x ≡ true
+pub all_at : {A : Type 0} (p : A → Bool) (xs : List A) (i : ℕ) (x : A) → list_all p xs ≡ true → slice_get xs i ≡ Some x → p x ≡ true
 all_at p [] i x e h = cc
 all_at p (y ∷ ys) zero x e h = let k = both_so (p y) (list_all p ys) e in let q : y ≡ x = cc in subst (λ z. p z ≡ true) q k.0
 all_at p (y ∷ ys) (suc i) x e h = let k = both_so (p y) (list_all p ys) e in all_at p ys i x k.1 h

@@ -1,14 +1,14 @@
 -- What is live in the naive code of a function.
-use Rattle.std.specs.Prelude.{◌≡◌, ℕ, zero, suc, ◌+◌, ◌<◌, true, List, [], ◌∷◌, ◌++◌, slice_get, Option, None, All}
+use Rattle.std.specs.Prelude.{◌≡◌, ℕ, zero, suc, ◌+◌, ◌<◌, true, List, [], ◌∷◌, ◌++◌, slice_get, Option, Some, None, All}
 use Rattle.rtl_tree.specs.declared.cells.Cell.{Cell}
 use Rattle.rtl_tree.specs.declared.cells.Cell.TheVariants.{Temp}
 use Rattle.c_tree.specs.declared.typed.Function.{Function}
 use Rattle.c_tree.specs.declared.typed.Typed.{Typed}
-use Rattle.c_sound.specs.Sound.{body_sound, known_in}
+use Rattle.c_sound.specs.Sound.{body_sound, known_in, is_meant}
 use Rattle.naive_code.specs.Operations.{Stop, Branches, Op, Make, Meet, Scale, Extend, Close}
 use Rattle.naive_code.specs.Storage.{scalar_count}
 use Rattle.naive_code.specs.Functions.{body_steps, function_ops}
-use Rattle.naive_run.specs.Sound.{is_sound_function}
+use Rattle.naive_run.specs.Sound.{is_sound_function, is_sound}
 use Rattle.naive_live.specs.Live.{Lives}
 
 -- the item that has a number, where the first of a list has the number n
@@ -25,6 +25,12 @@ depth_in kept w t f = numbered (scalar_count f) ((body_steps kept w t f).depths 
 pub record IsSoundFunction (kept : List ℕ) (w : ℕ) (t : Typed) (f : Function) : Type 0 where
   pub meant : body_sound (known_in w t f) f.body ≡ true
   pub sound : is_sound_function kept w t f ≡ true
+
+-- each function of a program that means something throughout and is sound is such a one
+abbrev pub FunctionsAreSound : Type 0
+FunctionsAreSound =
+    (kept : List ℕ) (w : ℕ) (t : Typed) (g : ℕ) (f : Function) → is_sound kept w t ≡ true → is_meant w t ≡ true → slice_get t.functions g ≡ Some f
+    → IsSoundFunction kept w t f
 
 -- nothing but scalars is live where the function begins and where it ends, and in between no two temporaries of one depth are live at once
 pub record FunctionLives (kept : List ℕ) (w pushed : ℕ) (t : Typed) (f : Function) (label : ℕ) : Type 0 where

@@ -47,14 +47,8 @@ item_transfer zero xs e ms rest h = subst (λ (ys : List (List Move)). item_in y
 item_transfer (suc n) [] e ms rest h = absurd h
 item_transfer (suc n) (x ∷ xs) e ms rest h = item_transfer n xs e ms rest h
 
-same_transfer : (ms ns : List Move) → Transfer ms ≡ Transfer ns → ms ≡ ns
-same_transfer ms ns e = cc
-
 no_end : (ms : List Move) (e : Exit) → Transfer ms ≡ End e → ⊥
 no_end ms e q = cc
-
-same_end : (e f : Exit) → End e ≡ End f → e ≡ f
-same_end e f q = cc
 
 position_least : (bs : List BasicBlock) (l n : ℕ) → n ≤ position bs l n
 position_least [] l n = omega arith
@@ -194,13 +188,6 @@ module _ (t : Target) (r : Routine) (depth : ℕ → Option ℕ) (scalars : ℕ)
   exit_flag_for flag live (Branches ms) next k n h e = h.1.flag_read n (for_reads k (Flag n) ms e)
   exit_flag_for flag live (Calls ms) next k n h e = absurd (clash e)
   exit_flag_for flag live Returns next k n h e = absurd (clash e)
-
-  -- a transfer in a body, or a comparison, reads no flag
-  body_flags : (live : List ℕ) (ms : List Move) (rest : List (List Move)) (e : Exit) (next : List ℕ) → Rest None live (ms ∷ rest) e next → (n : ℕ) → reads (Flag n) ms ≡ false
-  body_flags live ms rest e next h n = elim h.2 [
-    | inl b ↦ b.1.transfer.no_flag n
-    | inr c ↦ c.1.no_flag n
-  ]
 
   -- ---- what stands at a place decides its item
 

@@ -39,10 +39,6 @@ pub record AreLaws : Type 0 where
   pub branches : BranchesGo
   pub flag_branches : FlagBranchesGo
 
-false_by : (b : Bool) → (b ≡ true → ⊥) → b ≡ false
-false_by true h = absurd (h refl)
-false_by false h = refl
-
 -- what isn't so of the shape isn't so of the transfer
 back : (a b : Bool) → (a ≡ false → b ≡ false) → b ≡ true → a ≡ true
 back true b h e = refl

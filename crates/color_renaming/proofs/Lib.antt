@@ -1,0 +1,4 @@
+pub mod Seeing
+pub mod Assigning
+pub mod Doing
+pub mod Plain

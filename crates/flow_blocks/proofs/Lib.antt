@@ -1,0 +1,3 @@
+pub mod JumpLabels
+pub mod FirstLabels
+pub mod Previous

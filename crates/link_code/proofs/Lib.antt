@@ -1,0 +1,16 @@
+pub mod Memory
+pub mod Labels
+pub mod Machine
+pub mod Places
+pub mod Listing
+pub mod Wording
+pub mod Glue
+pub mod Calls
+pub mod Frames
+pub mod Holding
+pub mod Ahead
+pub mod Steps
+pub mod Running
+pub mod Bridge
+pub mod Example
+pub mod Sound

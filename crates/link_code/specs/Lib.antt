@@ -1,0 +1,4 @@
+pub mod Linked
+pub mod Runs
+pub mod Example
+pub mod Sound

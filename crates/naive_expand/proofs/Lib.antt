@@ -1,0 +1,5 @@
+mod Lists
+mod Numbering
+mod Appending
+mod Codes
+mod Whole

@@ -1,0 +1,4 @@
+pub mod Runs
+pub mod Cases
+pub mod Clearing
+pub mod Functions

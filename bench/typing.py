@@ -1,10 +1,9 @@
 #!/usr/bin/env python3
-"""Times the front end of C, `c_source::tree_of` and `c_types::type_program`, on growing sources, and prints a table with the ratios of one run.
+"""Times the front end of C, `c_source::tree_of`, `c_types::type_program` and `c_limits::within`, on growing sources, and prints a table with the ratios of one run.
 
-No command of the program goes through typing yet, so a small program is made and built in a temporary folder, with the repository's crates
-beside it: by `rt run`, over the libraries that `rt ci` left in the crates' folders (without them it proves all that it stands on), or with `--unproved` by `rt try`, which
-proves nothing and compiles with checks, so that its times are a hundred times longer; there the sources have a thirty-second part of the size. The program reads all sources and
-prints for each how long its parts took, which leaves out the start of the process and the reading.
+A small program is made in a temporary folder, with the repository's crates beside it, and built by `rt run`, which proves all that it stands on, or with `--unproved` by `rt try`, which proves nothing and compiles with checks, so that its times are a
+hundred times longer; there the sources have a thirty-second part of the size. `--program PATH` takes a program that is built already, and `--source` prints its source. The program reads all sources and prints for each how long its parts took, which
+leaves out the start of the process and the reading.
 
 The sources have up to 1 MiB: many functions; one function of many statements; blocks that nest to the limit, each with names of its own
 and uses of those around it; values of an initialiser; objects of the file, and of one block; and one switch of many cases.
@@ -25,11 +24,21 @@ DEEPEST = 97
 PROGRAM = """//! Types the sources from standard input, which stand apart by a byte 1, and tells how long that takes.
 #![tactic(auto)]
 
-use c_tree::CFault;
+use c_limits::within;
+use c_tree::{CFault, Typed};
 use c_types::type_program;
 use rtl_word::W32;
 use std::io::{self, Read, Write};
 use std::time::Instant;
+
+/// How long the limits take, on a machine of 16 MiB: a source of this length passes them or not.
+fn measured(rt: &HostRuntime, tree: &Typed) -> io::Result<u128> {
+    let begin = Instant::now(rt)?;
+    let answer = within::<W32>(tree, 1 << 24, 1024, 1 << 20);
+    let taken = begin.elapsed(rt)?.as_micros();
+    // the answer is looked at, so that it is computed
+    Ok(if answer.is_ok() { taken } else { taken.max(1) })
+}
 
 fn typed(rt: &HostRuntime, text: &[u8]) -> io::Result<()> {
     if text.len() > 1_048_576 {
@@ -40,16 +49,17 @@ fn typed(rt: &HostRuntime, text: &[u8]) -> io::Result<()> {
     let tree = c_source::tree_of(alloc, text);
     let parsed = begin.elapsed(rt)?.as_micros();
     let begin = Instant::now(rt)?;
-    let told = match tree {
-        Ok(syntax) => match type_program::<W32>(alloc, &syntax) {
-            Ok(_) => 0,
-            Err(CFault::Bad(reason)) => reason.rule,
-            Err(CFault::NoMemory) => 255,
-        },
-        Err(_) => 254,
+    let typed = match tree {
+        Ok(syntax) => type_program::<W32>(alloc, &syntax),
+        Err(fault) => Err(fault),
     };
     let taken = begin.elapsed(rt)?.as_micros();
-    writeln!(io::writer(rt), "rule {told} {parsed} {taken}")
+    let (told, limits) = match typed {
+        Ok(tree) => (0, measured(rt, &tree)?),
+        Err(CFault::Bad(reason)) => (reason.rule, 0),
+        Err(CFault::NoMemory) => (255, 0),
+    };
+    writeln!(io::writer(rt), "rule {told} {parsed} {taken} {limits}")
 }
 
 fn main(rt: HostRuntime) -> io::Result<()> {
@@ -110,14 +120,9 @@ def cases(size):
     return repeated("int main(void){switch(1){", lambda n: f"case {n}:;", "}}", size)
 
 
-def not_copied(folder, names):
-    """Of what was made of a crate its library alone is taken along."""
-    return [name for name in names if name != "rlib"] if os.path.basename(folder) == "out" else []
-
-
 def folder_of(temporary):
-    """The repository's crates with their libraries, and the program."""
-    shutil.copytree(os.path.join(ROOT, "crates"), os.path.join(temporary, "crates"), ignore=not_copied)
+    """The repository's crates, and the program."""
+    shutil.copytree(os.path.join(ROOT, "crates"), os.path.join(temporary, "crates"), ignore=shutil.ignore_patterns("out"))
     shutil.copy(os.path.join(ROOT, "HANDLES"), temporary)
     source = os.path.join(temporary, "crates", "typist", "src")
     os.makedirs(source)
@@ -126,22 +131,27 @@ def folder_of(temporary):
     with open(os.path.join(ROOT, "crates.txt")) as file:
         lines = file.read()
     with open(os.path.join(temporary, "crates.txt"), "w") as file:
-        file.write(f"{lines}typist: c_source c_types c_tree rtl_word\n")
+        file.write(f"{lines}typist: c_source c_types c_limits c_tree rtl_word\n")
     return os.path.dirname(source)
 
 
 def run(command, folder, sources):
-    """For each source the rule that is told, and the microseconds for its tree and for typing it."""
+    """For each source the rule that is told, and the microseconds for its tree, for typing it and for its limits."""
     done = subprocess.run(command, cwd=folder, input="\x01".join(sources).encode(), capture_output=True)
     lines = [line.removeprefix("| ").split() for line in done.stdout.decode().splitlines()]
-    answers = [[int(word) for word in words[1:]] for words in lines if len(words) == 4 and words[0] == "rule"]
+    answers = [[int(word) for word in words[1:]] for words in lines if len(words) == 5 and words[0] == "rule"]
     if len(answers) != len(sources) or any(answer[0] != 0 for answer in answers):
         sys.exit(f"no answer: {answers}: {(done.stdout + done.stderr).decode()[-2000:]}")
     return answers
 
 
 def main():
-    unproved = sys.argv[1:] == ["--unproved"]
+    words = sys.argv[1:]
+    if words == ["--source"]:
+        print(PROGRAM, end="")
+        return
+    unproved = words == ["--unproved"]
+    program = words[1] if len(words) == 2 and words[0] == "--program" else None
     kinds = [
         ("many functions", functions),
         ("one function of many statements", statements),
@@ -153,22 +163,26 @@ def main():
     ]
     sizes = [size // 32 if unproved else size for size in SIZES]
     sources = [source(size) for _, source in kinds for size in sizes]
-    with tempfile.TemporaryDirectory() as temporary:
-        folder = folder_of(temporary)
-        if unproved:
-            command, runs = ["rt", "try", "--seconds", "600"], 1
-        else:
-            run(["rt", "run"], folder, [END])
-            command, runs = [os.path.join(folder, "out", "typist")], RUNS
-        answers = [run(command, folder, sources) for _ in range(runs)]
-    print("| Source | Bytes | Tree, seconds | Ratio | Typing, seconds | Ratio |")
-    print("|---|---|---|---|---|---|")
+    runs = 1 if unproved else RUNS
+    if program:
+        answers = [run([program], ".", sources) for _ in range(runs)]
+    else:
+        with tempfile.TemporaryDirectory() as temporary:
+            folder = folder_of(temporary)
+            command = ["rt", "try", "--seconds", "600"] if unproved else [os.path.join(folder, "out", "typist")]
+            if not unproved:
+                run(["rt", "run"], folder, [END])
+            answers = [run(command, folder, sources) for _ in range(runs)]
+    print("| Source | Bytes | Tree, seconds | Ratio | Typing, seconds | Ratio | Limits, seconds | Ratio |")
+    print("|---|---|---|---|---|---|---|---|")
+    before = None
     for number, source in enumerate(sources):
-        tree, typing = (statistics.median(answer[number][part] for answer in answers) / 1e6 for part in (1, 2))
+        times = [statistics.median(answer[number][part] for answer in answers) / 1e6 for part in (1, 2, 3)]
         first = number % len(sizes) == 0
-        ratios = ["" if first else f"{now / then:.1f}" for now, then in ((tree, before[0]), (typing, before[1]))] if number else ["", ""]
-        print(f"| {kinds[number // len(sizes)][0]} | {len(source)} | {tree:.3f} | {ratios[0]} | {typing:.3f} | {ratios[1]} |")
-        before = tree, typing
+        ratios = ["" if first else f"{now / max(then, 1e-6):.1f}" for now, then in zip(times, before or times)]
+        parts = " | ".join(f"{time:.3f} | {ratio}" for time, ratio in zip(times, ratios))
+        print(f"| {kinds[number // len(sizes)][0]} | {len(source)} | {parts} |")
+        before = times
 
 
 if __name__ == "__main__":

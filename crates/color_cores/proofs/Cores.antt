@@ -36,7 +36,7 @@ bound (Err s) go d e = absurd (let k : Err s ≡ Ok d = e in cc)
 module _ (wanted : ℕ → Bool) where
   -- ---- what is assigned, stored and taken
 
-  assigned_core : (c : Cell) → is_wanted wanted (ToCell c) ≡ true → (ms : List Move) → assigned (core wanted ms) c ≡ assigned ms c
+  pub assigned_core : (c : Cell) → is_wanted wanted (ToCell c) ≡ true → (ms : List Move) → assigned (core wanted ms) c ≡ assigned ms c
   assigned_core c on [] = refl
   assigned_core c on (m ∷ ms) = by (is_wanted wanted m.to) refl (assigned_core c on ms)
     where
@@ -53,7 +53,7 @@ module _ (wanted : ℕ → Bool) where
       by true f ih = ap (assigned_by m.to m.value c) ih
       by false f ih = ih ∙ left_out m.to (assigned ms c) f
 
-  storing_core : (ms : List Move) → storing (core wanted ms) ≡ storing ms
+  pub storing_core : (ms : List Move) → storing (core wanted ms) ≡ storing ms
   storing_core [] = refl
   storing_core (m ∷ ms) = by (is_wanted wanted m.to) refl (storing_core ms)
     where
@@ -129,7 +129,7 @@ module _ (wanted : ℕ → Bool) where
         halt = refl;
       }
 
-    effect_made : (ms : List Move) (o h q : Option ℕ) (p : Option Patch) → tested w ms v ≡ Ok tt → event w (assigned ms Output) v ≡ Ok o → event w (assigned ms Halt) v ≡ Ok h → went w (assigned ms Pc) v ≡ Ok q
+    pub effect_made : (ms : List Move) (o h q : Option ℕ) (p : Option Patch) → tested w ms v ≡ Ok tt → event w (assigned ms Output) v ≡ Ok o → event w (assigned ms Halt) v ≡ Ok h → went w (assigned ms Pc) v ≡ Ok q
         → patch_of w (storing ms) v ≡ Ok p → effect w ms v ≡ Ok (record { view = view_after w ms p v; place = q; output = o; halt = h })
     effect_made ms o h q p a b c d e = λ i.
         bind (a i) (λ x. bind (b i) (λ o. bind (c i) (λ h. bind (d i) (λ q. bind (e i) (λ p. Ok (record { view = view_after w ms p v; place = q; output = o; halt = h }))))))

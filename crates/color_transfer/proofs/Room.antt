@@ -8,7 +8,6 @@ use Rattle.rtl_tree.specs.Moves.{Goal, ToCell, ToMemory, Move}
 use Rattle.temp_machine.specs.Routines.{Routine, Target}
 use Rattle.temp_machine.specs.Cells.{some_cell, some_goal_cell, sets_by, reads, sets}
 use Rattle.temp_machine.specs.Tidy.{temporaries_in, goal_temporaries, temporaries_of, is_among, count_different}
-use Rattle.color_renaming.specs.Renaming.{with_registers}
 use Rattle.color_spilling.specs.Spilling.{AreLoads, no_load, a_load, AreStores, no_store, a_store}
 use Rattle.color_transfer.specs.Colored.{ColoredFits}
 
@@ -172,11 +171,12 @@ joined (x ∷ xs) ys y = let ih = joined xs ys y in omega (arith, ih)
 
 pub colored_fits : ColoredFits
 colored_fits t r seats ms new c =
-    let o = no_more (temporaries_of ms) c.operands (apart_of c.operands c.at_home.differ) (λ k h. reads_among k ms ((c.at_home.are k).0 h).0) in
-    let s = no_more (temporaries_of ms) c.results (apart_of c.results c.to_home.differ) (λ k h. sets_among k ms ((c.to_home.are k).0 h).0) in
-    let l = loads_count t r c.register c.operands c.loads c.are_loads in
-    let k = stores_count t r c.register c.results c.stores c.are_stores in
-    let j = ap length c.is ∙ joined c.loads c.stores (with_registers c.register ms) in
+    let p = c.parts in
+    let o = no_more (temporaries_of ms) p.operands (apart_of p.operands p.at_home.differ) (λ k h. reads_among k ms ((p.at_home.are k).0 h).0) in
+    let s = no_more (temporaries_of ms) p.results (apart_of p.results p.to_home.differ) (λ k h. sets_among k ms ((p.to_home.are k).0 h).0) in
+    let l = loads_count t r p.register p.operands c.loads p.are_loads in
+    let k = stores_count t r p.register p.results c.stores p.are_stores in
+    let j = ap length c.is ∙ joined c.loads c.stores c.middle in
     sum (length new) (length c.loads) (length c.stores) (count_different (temporaries_of ms)) j (subst (λ (n : ℕ). n ≤ count_different (temporaries_of ms)) (sym l) o) (subst (λ (n : ℕ). n ≤ count_different (temporaries_of ms)) (sym k) s)
   where
     sum : (n a b m : ℕ) → n ≡ a + suc b → a ≤ m → b ≤ m → n ≤ max 5 (1 + 2 * m)

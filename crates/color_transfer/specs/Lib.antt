@@ -1,1 +1,2 @@
 pub mod Colored
+pub mod Code

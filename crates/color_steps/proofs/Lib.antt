@@ -1,0 +1,9 @@
+pub mod Tables
+pub mod Flow
+pub mod Tabled
+pub mod Frames
+pub mod States
+pub mod Ends
+pub mod Steps
+pub mod Keeping
+pub mod Sizes

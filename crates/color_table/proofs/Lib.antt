@@ -1,0 +1,4 @@
+pub mod Standing
+pub mod Tables
+pub mod Blocks
+pub mod Carrying

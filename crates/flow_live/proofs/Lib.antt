@@ -1,0 +1,13 @@
+pub mod Bits
+pub mod Cells
+pub mod Keeping
+pub mod Items
+pub mod Walking
+pub mod Same
+pub mod Becoming
+pub mod Closing
+pub mod Stepping
+pub mod Sweeping
+pub mod Filling
+pub mod Blockwise
+pub mod Mentioned

@@ -1,0 +1,7 @@
+use Rattle.std.proofs.Common.{◌≡◌, drop}
+use Rattle.temp_machine.specs.Cells.{some_read}
+use Rattle.flow_live.specs.Walks.{of_kind}
+use Rattle.flow_live.proofs.kinds.are_read.Given as goal
+
+abbrev pub invariant-loop-i : goal.invariant-loop-i
+invariant-loop-i l = some_read (of_kind l.kind) (drop l.i l.moves) ≡ some_read (of_kind l.kind) l.moves

@@ -1,0 +1,6 @@
+use Rattle.std.specs.Int.{w8}
+use Rattle.flow_live.proofs.Bits.{with_one}
+use Rattle.flow_live.proofs.rows.with_flag.Goals as goal
+
+pub returns : goal.returns
+returns c = λ k l. with_one w8 c.args.flags c.args.n k c.requires

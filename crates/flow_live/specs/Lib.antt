@@ -1,0 +1,5 @@
+pub mod Dead
+pub mod Rows
+pub mod Walks
+pub mod Settled
+pub mod Tables

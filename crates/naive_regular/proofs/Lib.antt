@@ -1,0 +1,5 @@
+mod Constants
+mod Regular
+mod Fits
+mod Walked
+mod Programs

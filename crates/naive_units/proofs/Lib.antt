@@ -1,0 +1,4 @@
+mod Made
+mod Proper
+pub mod Numbered
+mod Units

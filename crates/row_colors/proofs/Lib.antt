@@ -1,0 +1,5 @@
+pub mod Spilling
+pub mod Cores
+pub mod Testing
+pub mod Calm
+pub mod Registers

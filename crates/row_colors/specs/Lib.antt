@@ -1,0 +1,3 @@
+pub mod Spilling
+pub mod Calm
+pub mod Registers

@@ -1,0 +1,3 @@
+pub mod Glue
+pub mod Numbers
+pub mod Jobs

@@ -1,5 +1,5 @@
 -- Where the transfer at the end of a block leads.
-use Rattle.std.proofs.Common.{◌≡◌, ℕ, zero, suc, Option, Some, None, Result, Ok, Err, List, [], ◌∷◌, length, refl, sym, ap, ◌∙◌, inl, inr}
+use Rattle.std.proofs.Common.{◌≡◌, ℕ, zero, suc, Option, Some, None, Result, Ok, Err, List, refl, sym, ap, ◌∙◌, inl, inr}
 use Rattle.std.specs.Prelude.{◌⊎◌}
 use Rattle.rtl_tree.specs.declared.cells.Cell.TheVariants.{Pc}
 use Rattle.rtl_tree.specs.declared.cells.Lab.TheVariants.{Block, Function}
@@ -8,14 +8,7 @@ use Rattle.rtl_tree.specs.Trees.{Tree, Number, Symbol, CodeLabel, Read, Load, Un
 use Rattle.rtl_tree.specs.Moves.{Move}
 use Rattle.rtl_effect.specs.Views.{Stop, Wild, View, bind, seen}
 use Rattle.rtl_effect.specs.Effects.{Done, tested, event, assigned, went, chosen, aimed, patch_of, storing, effect}
-use Rattle.temp_machine.specs.Routines.{Exit}
-use Rattle.temp_machine.specs.Live.{End, item_in}
 use Rattle.temp_machine.specs.Flow.{label_by}
-
--- the end of a block stands behind its transfers
-pub item_end : (body : List (List Move)) (e : Exit) → item_in body e (length body) ≡ Some (End e)
-item_end [] e = refl
-item_end (ms ∷ rest) e = item_end rest e
 
 bind_ok : {A B : Type 0} (u : Result A Stop) (f : A → Result B Stop) (y : B) → bind u f ≡ Ok y → (x : A) × (u ≡ Ok x) × (f x ≡ Ok y)
 bind_ok (Ok x) f y e = (x, refl, e)

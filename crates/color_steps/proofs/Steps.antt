@@ -27,11 +27,12 @@ use Rattle.color_transfer.specs.Colored.{AreColoredParts}
 use Rattle.color_transfer.specs.Code.{IsColoredExit, falls, jumps, branches, calls, returns, IsColoredBlock}
 use Rattle.color_holding.specs.Holding.{where_is, Holds, IsStill}
 use Rattle.color_holding.specs.Laws.{IsKept, AreBodiesAlike, old_fails, both_stop, both_go}
+use Rattle.color_table.proofs.Blocks.{end_of}
 use Rattle.color_steps.proofs.Tables.{live_at, IsJumpPlace, IsEndPlace, IsTabled}
 use Rattle.color_jumps.proofs.Renamed.{jump_is_renamed}
 use Rattle.color_holding.proofs.Transfers.{transfer_keeps}
 use Rattle.color_holding.proofs.Bodies.{body_keeps}
-use Rattle.color_steps.proofs.Flow.{item_end, place_went, label_leads, jump_leads}
+use Rattle.color_steps.proofs.Flow.{place_went, label_leads, jump_leads}
 use Rattle.color_steps.proofs.Frames.{Job, call, wait, routine, Stands, live_in, framed, Waits, Chain, link, pushed_small, chain_room, chain_low, chain_same, chain_kept, homes_high}
 use Rattle.color_steps.proofs.States.{Content, state, content_of, words_of, Begins, Related, related, fails, weaker, old_view, new_view, placed, begin_holds, Still, callers_kept, goes_on}
 use Rattle.color_steps.proofs.Ends.{not_free, goes_back, cut, cut_above, enters}
@@ -229,7 +230,7 @@ module _ (j : Job) where
     -- the end of a block
     module _ (b0 : BasicBlock) (is : slice_get code.blocks k ≡ Some b0) (x y : View) (o : List ℕ) (h : Held (table k (length b0.body)) x y) (still : Stays x y) where
       item_is : (e : Exit) → b0.exit ≡ e → item_at code (record { block = k; at = length b0.body }) ≡ Some (End e)
-      item_is e q = ap (λ m. item_of m (length b0.body)) is ∙ item_end b0.body b0.exit ∙ ap (λ m. Some (End m)) q
+      item_is e q = ap (λ m. item_of m (length b0.body)) is ∙ end_of b0.body b0.exit ∙ ap (λ m. Some (End m)) q
 
       successors_are : (e : Exit) → b0.exit ≡ e → successors j.t.word code k ≡ successors_by j.t.word code.blocks k e
       successors_are e q = ap (successors_at j.t.word code.blocks k) is ∙ ap (successors_by j.t.word code.blocks k) q

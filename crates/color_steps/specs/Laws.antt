@@ -1,10 +1,6 @@
 -- Laws of coloured code as a whole.
-use Rattle.std.specs.Prelude.{◌≡◌, ℕ, ◌<◌, false, List, [], length, Some}
-use Rattle.rtl_tree.specs.declared.cells.Cell.TheVariants.{Temp}
-use Rattle.rtl_tree.specs.Moves.{Move}
-use Rattle.temp_machine.specs.Routines.{Calls, Image, Target}
-use Rattle.temp_machine.specs.Cells.{sets}
-use Rattle.temp_machine.specs.Live.{Place, End, item_at}
+use Rattle.std.specs.Prelude.{◌≡◌, ℕ, ◌<◌, List, [], length}
+use Rattle.temp_machine.specs.Routines.{Image, Target}
 use Rattle.temp_machine.specs.Keeps.{Keeps}
 use Rattle.temp_machine.specs.Units.{IsTarget, IsImage}
 use Rattle.color_code.specs.Colors.{Seats}
@@ -12,7 +8,7 @@ use Rattle.color_transfer.specs.Code.{IsColoredImage}
 use Rattle.color_holding.specs.Places.{AreGeneral}
 use Rattle.color_table.specs.Tables.{Table, IsExact, IsColorable, AreCalm}
 
--- An image, and what it is when the temporaries of each routine are in general registers and homes; no call sets a temporary.
+-- an image, and what it is when the temporaries of each routine are in general registers and homes
 pub record IsColoredProgram (t : Target) (old new : Image) (colors : ℕ → List ℕ) (seats : ℕ → Seats) (live : ℕ → Table) : Type 0 where
   pub none_kept : t.kept ≡ []
   pub target : IsTarget t
@@ -22,7 +18,6 @@ pub record IsColoredProgram (t : Target) (old new : Image) (colors : ℕ → Lis
   pub colorable : (f : ℕ) → 0 < length (old.routines f).blocks → IsColorable t (old.routines f) (colors f) (seats f)
   pub exact : (f : ℕ) → 0 < length (old.routines f).blocks → IsExact t (old.routines f) (live f)
   pub calm : (f : ℕ) → 0 < length (old.routines f).blocks → AreCalm t (old.routines f) (live f)
-  pub calls : (f : ℕ) (p : Place) (ms : List Move) (k : ℕ) → item_at (old.routines f) p ≡ Some (End (Calls ms)) → sets (Temp k) ms ≡ false
 
 -- coloured code keeps what the old code does
 abbrev pub KeepsColored : Type 0

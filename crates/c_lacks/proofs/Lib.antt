@@ -1,0 +1,4 @@
+mod Sets
+mod Usable
+mod Present
+mod Telling

@@ -1,0 +1,4 @@
+pub mod Operators
+pub mod Lacks
+pub mod Present
+pub mod Laws

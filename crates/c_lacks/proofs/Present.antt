@@ -20,7 +20,7 @@ use Rattle.c_meaning.specs.Operators.{sort_of}
 use Rattle.c_typing.specs.Faults.{Faults, sound, broken, ◌also◌, clean}
 use Rattle.naive_fits.specs.Expandable.{Used, all_there, all_so, sort_there, operation_there, used_by, is_there_in, option_there, init_there, locals_there, start_there}
 use Rattle.c_lacks.specs.Lacks.{Lacking, each_lacks, all_lack, lacking, lacking_by, expression_lacks, list_lacks, option_lacks, init_lacks, locals_lack, start_lacks, statement_lacks_by, functions_lack, tree_lacks, IsSound}
-use Rattle.c_lacks.specs.Present.{statement_there_by, function_there, operators_there}
+use Rattle.naive_regular.specs.Operators.{statement_there_by, function_there, operators_there}
 
 -- what breaks nothing is clean
 sound_is_clean : (fs : Faults) → IsSound fs → clean fs ≡ true

@@ -7,7 +7,7 @@ use Rattle.c_tree.specs.declared.typed.Typed.{Typed}
 use Rattle.naive_fits.specs.Expandable.{AreThere}
 use Rattle.c_lacks.specs.Operators.{AreOperators, has_in}
 use Rattle.c_lacks.specs.Lacks.{tree_lacks, IsSound}
-use Rattle.c_lacks.specs.Present.{operators_there}
+use Rattle.naive_regular.specs.Operators.{operators_there}
 
 -- what `operators` tells of a description are its operators
 abbrev pub SetsAreOperators : Type 0

@@ -1,4 +1,3 @@
 pub mod Operators
 pub mod Lacks
-pub mod Present
 pub mod Laws

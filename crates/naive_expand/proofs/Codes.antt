@@ -22,6 +22,7 @@ use Rattle.temp_machine.specs.Units.{IsTarget}
 use Rattle.temp_laws.specs.Targets.{TargetsAreSound}
 use Rattle.naive_builder.specs.Appending.{Emitted, begun, Appends, opened}
 use Rattle.naive_builder.specs.Finished.{finished, AreOnce, DoesOperations, FinishedDoesOperations}
+use Rattle.naive_forms.specs.Codes.{IsBuilt}
 use Rattle.naive_expr.specs.declared.emission.Emitter.{Emitter}
 use Rattle.naive_expr.specs.declared.sites.Site.{Site}
 use Rattle.naive_expr.specs.declared.operations.Op.{Op as Held}
@@ -82,21 +83,26 @@ emitted_is out = refl
 pub doable_ops : (d : RawDescription) (out : Emitter) (ops : List Held) → ops ≡ out.ops → AreDoable d (emitted out) → AreDoable d (ops_of ops)
 doable_ops d out ops e h = subst (λ (os : List Op). AreDoable d os) (emitted_is out ∙ sym (ap ops_of e)) h
 
--- what was appended to one empty block does the operations, once it is finished
-pub does_by : (w : ℕ) (d : RawDescription) (m : Fixed) (label : ℕ) (out : Emitter) (ops : List Held) (s t : Emitted) (c : Code) → FinishedDoesOperations → TargetsAreSound
-    → IsChecked w d → IsWordSize d.word → frame_in d ≡ Some m → ops ≡ out.ops → s ≡ begun label → Appends d m s (ops_of ops) t → AreOnce (label ∷ opened (emitted out))
-    → c.blocks ≡ finished t → DoesOperations d m label (emitted out) c
-does_by w d m label out ops s t c law sound checked size e p q h once blocks =
-    let memory = subst (λ (k : ℕ). k < 2 ^ d.word) (sym (is_fixed_by d m e).memory) (is_target w d m sound checked e).memory in
+-- what was appended to one empty block, once it is finished
+pub built_by : (d : RawDescription) (m : Fixed) (label : ℕ) (out : Emitter) (ops : List Held) (s t : Emitted) (c : Code) → ops ≡ out.ops → s ≡ begun label
+    → Appends d m s (ops_of ops) t → c.blocks ≡ finished t → IsBuilt d m label (emitted out) c
+built_by d m label out ops s t c p q h blocks =
     let begins = subst (λ (x : Emitted). Appends d m x (ops_of ops) t) q h in
-    let appends = subst (λ (os : List Op). Appends d m (begun label) os t) (ap ops_of p ∙ sym (emitted_is out)) begins in
-    law w d m label (emitted out) t c checked size memory appends once blocks
+    record { emitted = t; appends = subst (λ (os : List Op). Appends d m (begun label) os t) (ap ops_of p ∙ sym (emitted_is out)) begins; blocks = blocks }
+
+-- does the operations
+pub does_by : (w : ℕ) (d : RawDescription) (m : Fixed) (label : ℕ) (out : Emitter) (c : Code) → FinishedDoesOperations → TargetsAreSound
+    → IsChecked w d → IsWordSize d.word → frame_in d ≡ Some m → AreOnce (label ∷ opened (emitted out)) → IsBuilt d m label (emitted out) c
+    → DoesOperations d m label (emitted out) c
+does_by w d m label out c law sound checked size e once built =
+    let memory = subst (λ (k : ℕ). k < 2 ^ d.word) (sym (is_fixed_by d m e).memory) (is_target w d m sound checked e).memory in
+    law w d m label (emitted out) built.emitted c checked size memory built.appends once built.blocks
 
 -- they can be made, and open each label once
 pub are_doable : (d : RawDescription) (m : Fixed) (t : Typed) (number : ℕ) (f : Function) (label : ℕ) (out : Emitter) → OperationsFit → IsWordSize d.word → MayBeExpanded d t
     → slice_get t.functions number ≡ Some f → AreOperationsOf d.word (pushed_by m.link (d.word / 8)) t f label out → AreDoable d (emitted out)
 are_doable d m t number f label out fit size h is are =
-    subst (λ (os : List Op). AreDoable d os) (sym are.ops) (fit [] d m.link h.has t number f label size h.there h.bounded h.sound h.expandable is)
+    subst (λ (os : List Op). AreDoable d os) (sym are.ops) (fit [] d m.link h.has t number f label size h.there h.proper.bounded h.proper.sound h.expandable is)
 
 pub are_once : (d : RawDescription) (m : Fixed) (t : Typed) (f : Function) (label : ℕ) (out : Emitter) → LabelsAreOnce
     → AreOperationsOf d.word (pushed_by m.link (d.word / 8)) t f label out → AreOnce (label ∷ opened (emitted out))
@@ -105,9 +111,9 @@ are_once d m t f label out once are = subst (λ (os : List Op). AreOnce (label �
 -- the code that does them is the function's
 pub made_by : (d : RawDescription) (m : Fixed) (t : Typed) (number : ℕ) (f : Function) (label params : ℕ) (r : Frame) (out : Emitter) (c : Code)
     → params ≡ length f.params → IsFrameOf d.word f r → AreOperationsOf d.word (pushed_by m.link (d.word / 8)) t f label out
-    → HasNumbers number params r out.depths c → DoesOperations d m label (emitted out) c
+    → HasNumbers number params r out.depths c → DoesOperations d m label (emitted out) c → IsBuilt d m label (emitted out) c
     → IsMadeOf d m t number f label (record { code = c; next_label = out.next_label })
-made_by d m t number f label params r out c q frame are has does =
+made_by d m t number f label params r out c q frame are has does built =
     let done = subst (λ (os : List Op). DoesOperations d m label os c) are.ops does in
     let homes : numbers_from 16 r.scalars ++ map (λ k. 16 + r.scalars + k) out.depths ≡ function_homes [] d.word t f =
     ap (λ (n : ℕ). numbers_from 16 n ++ map (λ k. 16 + n + k) out.depths) frame.scalars
@@ -128,6 +134,7 @@ made_by d m t number f label params r out c q frame are has does =
         labels = done.labels;
         realised = done.realised;
         elementary = done.elementary;
+        built = subst (λ (os : List Op). IsBuilt d m label os c) are.ops built;
       };
       next = are.next;
     }

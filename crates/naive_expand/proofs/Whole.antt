@@ -2,7 +2,6 @@
 use Rattle.std.proofs.Common.{◌≡◌, ℕ, zero, suc, ◌+◌, ◌-◌, ◌/◌, ◌%◌, ◌^◌, ◌<◌, ◌≤◌, Bool, true, false, ◌==◌, if◌then◌else◌, List, [], ◌∷◌, ◌++◌, map, length, Some, refl, sym, ap, subst, ◌∙◌, arith}
 use Rattle.std.specs.Prelude.{slice_get, All}
 use Rattle.std.proofs.lemmas.List.Elements.{All-nil, All-cons}
-use Rattle.std.proofs.lemmas.Bool.Decides.{nat_tests}
 use Rattle.md_rows.specs.declared.description.RawDescription.{RawDescription}
 use Rattle.md_shapes.specs.Shapes.{Frame as Fixed}
 use Rattle.md_covers.specs.Covers.{frame_in}
@@ -26,6 +25,8 @@ use Rattle.naive_data.specs.Placed.{IsPlaced, HaveRoom}
 use Rattle.naive_builder.specs.Appending.{opened}
 use Rattle.naive_builder.specs.Finished.{AreOnce}
 use Rattle.naive_fits.specs.Labels.{labels_from, AllLabelsAreOnce}
+use Rattle.naive_units.specs.Units.{AreNaiveFrom, UnitsAreGood}
+use Rattle.naive_units.proofs.Numbered.{routine_here, routine_behind}
 use Rattle.naive_expand.specs.Codes.{machine_of, operations, AreElementary, IsCodeOf, AreCodesFrom}
 use Rattle.naive_expand.specs.Units.{MayBeExpanded, labels_of, IsNaiveCode}
 use Rattle.naive_expand.proofs.Codes.{some_function, is_fixed_by, is_target}
@@ -63,21 +64,7 @@ each_code P d m t n l (f ∷ fs) (c ∷ cs) h a =
 each_code P d m t n l [] (c ∷ cs) h a = absurd a
 each_code P d m t n l (f ∷ fs) [] h a = absurd a
 
--- the routine of a number is that of the code that has it
-chosen : (b : Bool) (x y : Routine) → b ≡ true → (if b then x else y) ≡ x
-chosen true x y e = refl
-chosen false x y e = let k : false ≡ true = e in absurd (cc)
-
-passed : (b : Bool) (x y : Routine) → b ≡ false → (if b then x else y) ≡ y
-passed false x y e = refl
-passed true x y e = let k : true ≡ false = e in absurd (cc)
-
-is_number : (a n k : ℕ) → a ≡ n → k ≡ n → a == k ≡ true
-is_number a n k e h = grind (arith, nat_tests, e, h)
-
-is_other : (a n k j : ℕ) → a ≡ n → k ≡ n + suc j → a == k ≡ false
-is_other a n k j e h = grind (arith, nat_tests, e, h)
-
+-- the routine of a number
 abbrev Stood : RawDescription → Fixed → Typed → Function → Routine → Type 0
 Stood d m t f r = (label : ℕ) × Expands (machine_of d m) m t f label r
 
@@ -86,12 +73,30 @@ function_at : (d : RawDescription) (m : Fixed) (t : Typed) (n l : ℕ) (fs : Lis
 function_at d m t n l [] [] j k f q a e = absurd (cc)
 function_at d m t n l (g ∷ fs) (c ∷ cs) zero k f q a e =
     let here = subst (λ (h : Function). Stood d m t h (routine_of c)) (some_function g f e) (l, a.0.expands) in
-    subst (Stood d m t f) (sym (chosen (c.function == k) (routine_of c) (routine_in cs k) (is_number c.function n k a.0.function (omega (arith, q))))) here
+    subst (Stood d m t f) (sym (routine_here c cs n k a.0.function q)) here
 function_at d m t n l (g ∷ fs) (c ∷ cs) (suc j) k f q a e =
-    subst (Stood d m t f) (sym (passed (c.function == k) (routine_of c) (routine_in cs k) (is_other c.function n k j a.0.function q)))
+    subst (Stood d m t f) (sym (routine_behind c cs n k j a.0.function q))
     (function_at d m t (suc n) (l + function_labels [] d.word t g) fs cs j k f (omega (arith, q)) a.1 e)
 function_at d m t n l [] (c ∷ cs) j k f q a e = absurd a
 function_at d m t n l (g ∷ fs) [] j k f q a e = absurd a
+
+-- each code is naive
+are_naive : (d : RawDescription) (m : Fixed) (t : Typed) (n l : ℕ) (fs : List Function) (cs : List Code) → AreCodesFrom d m t n l fs cs → AreNaiveFrom [] d m t n l fs cs
+are_naive d m t n l [] [] a = tt
+are_naive d m t n l (f ∷ fs) (c ∷ cs) a = (
+  a.0.function,
+  record {
+    built = a.0.built;
+    params = a.0.expands.params;
+    frame = a.0.expands.frame;
+    first_home = a.0.expands.first_home;
+    slots = a.0.expands.slots;
+    homes = a.0.expands.homes;
+  },
+  are_naive d m t (suc n) (l + function_labels [] d.word t f) fs cs a.1,
+)
+are_naive d m t n l [] (c ∷ cs) a = absurd a
+are_naive d m t n l (f ∷ fs) [] a = absurd a
 
 -- what the description gives
 pub laid_out : (w : ℕ) (d : RawDescription) → SaidIsLaidOut → IsChecked w d → IsLaidOut d
@@ -131,6 +136,7 @@ pub record AreLaws : Type 0 where
   pub targets : TargetsAreSound
   pub labels : AllLabelsAreOnce
   pub same : NaiveIsSame
+  pub good : UnitsAreGood
 
 pub naive_code : (w : ℕ) (d : RawDescription) (m : Fixed) (t : Typed) (u : Program) → AreLaws → IsChecked w d → frame_in d ≡ Some m → MayBeExpanded d t → HasRoom d t
     → AreCodesFrom d m t 0 0 t.functions u.codes → IsPlaced (machine_of d m) (image_of u) t.statics
@@ -160,5 +166,6 @@ naive_code w d m t u laws c e h room codes placed functions objects =
       labels = subst AreOnce (sym (labels_are d m t 0 0 t.functions u.codes codes)) (laws.labels [] d.word (pushed_by m.link (d.word / 8)) t t.functions 0);
       realised = each_code (AreRealised d) d m t 0 0 t.functions u.codes (λ k l f c h. h.realised) codes;
       elementary = each_code (AreElementary d) d m t 0 0 t.functions u.codes (λ k l f c h. h.elementary) codes;
-      same = λ input bytes clean. laws.same (machine_of d m) m t (image_of u) (is_fixed_by d m e) machine h.sound unit input bytes clean;
+      good = laws.good w d m [] t u c e h.proper machine unit.main (are_naive d m t 0 0 t.functions u.codes codes);
+      same = λ input bytes clean. laws.same (machine_of d m) m t (image_of u) (is_fixed_by d m e) machine h.proper.sound unit input bytes clean;
     }

@@ -14,6 +14,7 @@ use Rattle.naive_code.specs.Operations.{Op}
 use Rattle.naive_code.specs.Functions.{function_ops, function_labels, numbers_from}
 use Rattle.naive_run.specs.Law.{Expands}
 use Rattle.naive_builder.specs.Appending.{opened}
+use Rattle.naive_forms.specs.Codes.{IsBuilt}
 use Rattle.naive_expand.specs.declared.frames.Frame.{Frame}
 use Rattle.naive_expand.specs.declared.functions.Made.{Made}
 
@@ -44,6 +45,7 @@ pub record IsCodeOf (d : RawDescription) (m : Fixed) (t : Typed) (number : ℕ) 
   pub labels : map (λ b. b.label) c.blocks ≡ label ∷ opened (operations d m t f label)
   pub realised : AreRealised d c
   pub elementary : AreElementary d c
+  pub built : IsBuilt d m label (operations d m t f label) c
 
 -- such a code, and the label behind those that the function takes
 pub record IsMadeOf (d : RawDescription) (m : Fixed) (t : Typed) (number : ℕ) (f : Function) (label : ℕ) (made : Made) : Type 0 where

@@ -16,17 +16,16 @@ use Rattle.temp_code.specs.Realised.{AreRealised}
 use Rattle.temp_code.specs.Routines.{image_of}
 use Rattle.naive_code.specs.Functions.{numbers_from}
 use Rattle.naive_run.specs.Law.{IsUnitOf, IsSoundTarget, run_of}
-use Rattle.naive_run.specs.Sound.{is_sound}
 use Rattle.naive_builder.specs.Finished.{AreOnce}
-use Rattle.naive_fits.specs.Bounds.{IsBounded}
 use Rattle.naive_fits.specs.Expandable.{AreThere, is_expandable}
+use Rattle.naive_units.specs.Trees.{IsProperTree}
+use Rattle.naive_units.specs.Units.{IsGoodUnit}
 use Rattle.naive_expand.specs.Codes.{machine_of, AreElementary}
 
--- What typing, the limits and the description give of a tree: it is sound, its frames and lists are bounded, its objects have room, and
--- the description has its operators.
+-- What typing, the limits and the description give of a tree: it is sound and bounded, its objects have room, and the description has its
+-- operators.
 pub record MayBeExpanded (d : RawDescription) (t : Typed) : Type 0 where
-  pub sound : is_sound [] d.word t ≡ true
-  pub bounded : IsBounded [] d.word t
+  pub proper : IsProperTree [] d.word t
   pub room : static_faults d.word (d.memory - d.stack - d.base) 0 0 t.statics ≡ []
   pub has : BinOp → Bool
   pub there : AreThere d has
@@ -37,8 +36,8 @@ abbrev pub labels_of : List Code → List ℕ
 labels_of [] = []
 labels_of (c ∷ cs) = map (λ b. b.label) c.blocks ++ labels_of cs
 
--- the naive code of a tree: its names, functions and objects are the tree's, its transfers are those of instructions, each elementary, and
--- wherever the source does nothing undefined it does what the source does
+-- the naive code of a tree: its names, functions and objects are the tree's, its transfers are those of instructions, each elementary; it is
+-- such as each pass may ask; and wherever the source does nothing undefined it does what the source does
 pub record IsNaiveCode (d : RawDescription) (t : Typed) (u : Program) : Type 0 where
   pub frame : Fixed
   pub fixed : frame_in d ≡ Some frame
@@ -50,5 +49,6 @@ pub record IsNaiveCode (d : RawDescription) (t : Typed) (u : Program) : Type 0 w
   pub labels : AreOnce (labels_of u.codes)
   pub realised : All (AreRealised d) u.codes
   pub elementary : All (AreElementary d) u.codes
+  pub good : IsGoodUnit [] d frame t u
   pub same : (input : List ℕ) → AreBytes input → IsClean (setting_of [] d.word d.stack) t input
       → Same (run_of (machine_of d frame) t input) (temporary_run (machine_of d frame) (image_of u) input)

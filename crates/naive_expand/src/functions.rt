@@ -14,6 +14,7 @@ ghost use Rattle.naive_expr.specs.Emitted.{emitted};
 ghost use Rattle.naive_expr.specs.Tables.{IsSiteOf};
 ghost use Rattle.naive_stat.specs.Functions.{AreOperationsOf};
 ghost use Rattle.naive_fits.specs.Doable.{AreDoable};
+ghost use Rattle.naive_forms.specs.Codes.{IsBuilt};
 ghost use Rattle.naive_expand.specs.Frames.{HasSmallFrame, IsFrameOf};
 ghost use Rattle.naive_expand.specs.Codes.{HasNumbers, IsMadeOf};
 ghost use Rattle.naive_expand.specs.Units.{MayBeExpanded};
@@ -79,6 +80,7 @@ fn code_of<W: Word>(
     requires once { AreOnce (label ∷ opened (emitted out.now)) }
     ensures numbers { IfOk result (HasNumbers number params frame.now out.now.depths) }
     ensures does { IfOk result (DoesOperations m.now (fixed_in m.now rows.now) label (emitted out.now)) }
+    ensures built { IfOk result (IsBuilt m.now (fixed_in m.now rows.now) label (emitted out.now)) }
 {
     finished_does_operations();
     targets_are_sound();

@@ -14,6 +14,7 @@ use md_layout::said_is_laid_out;
 use naive_data::{have_room, place_statics};
 use naive_expr::Site;
 use naive_fits::laws::all_labels_are_once;
+use naive_units::laws::units_are_good;
 use naive_whole::laws::naive_code_does_the_same;
 use rtl_tree::NoMemory;
 use rtl_word::Word;
@@ -51,6 +52,7 @@ pub fn expand<W: Word>(alloc: Global, t: &Typed, m: &Checked<W>) -> Result<Unit,
 {
     all_labels_are_once();
     naive_code_does_the_same();
+    units_are_good();
     said_is_laid_out();
     have_room();
     targets_are_sound();

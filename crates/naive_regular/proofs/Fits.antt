@@ -1,5 +1,5 @@
 -- A regular tree fills its lists, and naive code can be made of it where its operators are there.
-use Rattle.std.proofs.Common.{◌≡◌, ℕ, ◌^◌, ◌&&◌, nat_lt, nat_le, Bool, true, Option, Some, None, List, [], ◌∷◌, map, length, refl, sym, subst, ◌∙◌}
+use Rattle.std.proofs.Common.{◌≡◌, ℕ, ◌^◌, ◌&&◌, nat_lt, nat_le, Bool, true, Some, None, List, [], ◌∷◌, map, length, refl, sym, subst, ◌∙◌}
 use Rattle.std.specs.List.{list_all}
 use Rattle.std.proofs.lemmas.Bool.{and_from as both}
 use Rattle.rtl_tree.specs.declared.expressions.BinOp.{BinOp}
@@ -13,7 +13,7 @@ use Rattle.c_tree.specs.declared.typed.Function.{Function}
 use Rattle.c_typing.proofs.Trees.{left_of, right_of}
 use Rattle.naive_counts.specs.Names.{all_true}
 use Rattle.naive_counts.specs.Homes.{filled_by, fills_lists, start_filled}
-use Rattle.naive_fits.specs.Expandable.{all_so, or_so, is_there_in, option_there, start_there, expandable_by, is_expandable_function}
+use Rattle.naive_fits.specs.Expandable.{all_so, is_there_in, option_there, start_there, expandable_by, is_expandable_function}
 use Rattle.naive_regular.specs.Regular.{regular_by, is_regular_function}
 use Rattle.naive_regular.specs.Operators.{statement_there_by, function_there}
 use Rattle.naive_regular.specs.Laws.{RegularIsExpandable, RegularFillsLists}

@@ -1,5 +1,5 @@
 -- The typed tree of a text that breaks no rule is regular.
-use Rattle.std.proofs.Common.{◌≡◌, ℕ, suc, ◌+◌, ◌≤◌, ◌==◌, nat_le, ◌&&◌, Bool, true, false, Option, Some, None, List, [], ◌∷◌, ◌++◌, map, length, refl, sym, subst, ap, ◌∙◌, arith}
+use Rattle.std.proofs.Common.{◌≡◌, ℕ, suc, ◌≤◌, ◌==◌, nat_le, Bool, true, false, Option, Some, None, List, [], ◌∷◌, ◌++◌, map, length, refl, subst, ap, arith}
 use Rattle.std.specs.List.{list_all}
 use Rattle.std.specs.Option.{unwrap_or}
 use Rattle.std.proofs.lemmas.Bool.{and_from as both}
@@ -17,17 +17,14 @@ use Rattle.c_tree.specs.declared.syntax.Statement.{Statement}
 use Rattle.c_tree.specs.declared.syntax.External.{External}
 use Rattle.c_tree.specs.declared.syntax.External.TheVariants as external
 use Rattle.c_tree.specs.declared.syntax.Syntax.{Syntax}
-use Rattle.c_tree.specs.declared.typed.Object.{Object}
 use Rattle.c_tree.specs.declared.typed.Function.{Function}
 use Rattle.c_tree.specs.declared.typed.Typed.{Typed}
-use Rattle.c_tree.specs.declared.typed.Stat.{Stat}
 use Rattle.c_grammar.specs.declared.sign.Sign.TheVariants as sign
 use Rattle.c_grammar.specs.Operators.{type_signs}
-use Rattle.c_grammar.specs.Phrases.{Part, Said, node, item, piece, the_sign, stands, all_fit, each, commas}
+use Rattle.c_grammar.specs.Phrases.{Part, node, item, piece, the_sign, stands, all_fit, each, commas}
 use Rattle.c_grammar.specs.Grammar as grammar
 use Rattle.c_typing.specs.Faults.{clean}
-use Rattle.c_typing.specs.Types.{type_of_words}
-use Rattle.c_typing.specs.Expressions.{broken_if, one}
+use Rattle.c_typing.specs.Expressions.{one}
 use Rattle.c_typing.specs.Functions.{heading, headings, definition_of, signatures, parameter_list, return_type}
 use Rattle.c_typing.specs.declared.names.Signature.{Signature}
 use Rattle.c_typing.specs.Statements as st
@@ -37,8 +34,8 @@ use Rattle.c_sound.proofs.Judged.{Kept, one_keeps}
 use Rattle.c_sound.proofs.Programs.{is_not, clean_of, Is_nothing}
 use Rattle.naive_regular.specs.Regular.{is_regular_function, is_regular}
 use Rattle.naive_regular.specs.Laws.{TypedIsRegular}
-use Rattle.naive_regular.proofs.Regular.{regular, all_regular, block_regular}
-use Rattle.naive_regular.proofs.Walked.{signs_fit, first_item, other_items, parts_fit, stands_fit, list_keeps}
+use Rattle.naive_regular.proofs.Regular.{all_regular, block_regular}
+use Rattle.naive_regular.proofs.Walked.{signs_fit, other_items, parts_fit, stands_fit, list_keeps}
 
 -- ---- parameters
 

@@ -1,5 +1,5 @@
 -- The typed tree of a statement is regular, where the grammar says that each list of initialisers has a value.
-use Rattle.std.proofs.Common.{◌≡◌, ℕ, nat_le, ◌&&◌, Bool, true, false, Option, Some, None, List, [], ◌∷◌, ◌++◌, map, refl, sym, ◌∙◌, subst, ap}
+use Rattle.std.proofs.Common.{◌≡◌, ℕ, nat_le, ◌&&◌, Bool, true, false, Option, Some, None, List, [], ◌∷◌, ◌++◌, map, refl, sym, subst}
 use Rattle.std.proofs.lemmas.Bool.{and_from as both}
 use Rattle.rtl_word.specs.Words.{IsWordSize}
 use Rattle.c_tree.proofs.ExprFolds.{With}
@@ -36,7 +36,7 @@ use Rattle.c_typing.specs.declared.names.Around.{Around}
 use Rattle.c_typing.specs.declared.names.Extent.{Extent}
 use Rattle.c_typing.specs.declared.names.Extent.TheVariants as extent
 use Rattle.c_typing.specs.Types.{type_of_words, converted}
-use Rattle.c_typing.specs.Expressions.{Within, one, two, three, together}
+use Rattle.c_typing.specs.Expressions.{Within, one, two, together}
 use Rattle.c_typing.specs.Statements as st
 use Rattle.c_typing.proofs.Trees.{no, left_of, right_of}
 use Rattle.c_sound.proofs.Judged.{Kept, one_keeps, two_keeps, three_keeps, unless_keeps}

@@ -1,5 +1,5 @@
 -- What is asked of the functions of a proper tree.
-use Rattle.std.proofs.Common.{◌≡◌, ℕ, zero, suc, ◌+◌, ◌≤◌, Bool, ◌&&◌, true, false, List, [], ◌∷◌, Some, sym, subst, refl}
+use Rattle.std.proofs.Common.{◌≡◌, ℕ, zero, suc, ◌≤◌, Bool, ◌&&◌, true, false, List, [], ◌∷◌, Some, sym, subst, refl}
 use Rattle.std.specs.Prelude.{length, slice_get, All}
 use Rattle.std.specs.List.{AllByRecursion, list_all}
 use Rattle.std.proofs.lemmas.List.Elements.{All-from_recursion, recursion_from_All}
@@ -17,7 +17,7 @@ use Rattle.c_sound.specs.Sound.{body_sound, known_in, functions_sound}
 use Rattle.temp_machine.specs.Routines.{pushed}
 use Rattle.temp_laws.specs.Targets.{target_of}
 use Rattle.naive_code.specs.Operations.{Stop, Falls, Jumps, Branches, Calls, Returns, Op, Make, Meet, Scale, Extend, Close}
-use Rattle.naive_code.specs.Functions.{function_ops, function_homes}
+use Rattle.naive_code.specs.Functions.{function_homes}
 use Rattle.naive_run.specs.Sound.{is_sound_function}
 use Rattle.naive_counts.specs.Names.{names_scalars}
 use Rattle.naive_counts.specs.Homes.{fills_lists, HomesAreSlots}

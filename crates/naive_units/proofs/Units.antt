@@ -1,5 +1,5 @@
 -- The codes of all functions are such as each pass may ask.
-use Rattle.std.proofs.Common.{◌≡◌, ℕ, zero, suc, ◌+◌, ◌*◌, ◌<◌, ◌≤◌, nat_lt, Bool, ◌&&◌, true, false, List, [], ◌∷◌, Some, refl, sym, ap, subst, ◌∙◌, arith}
+use Rattle.std.proofs.Common.{◌≡◌, ℕ, zero, suc, ◌+◌, ◌*◌, ◌<◌, ◌≤◌, nat_lt, true, List, [], ◌∷◌, Some, refl, sym, ap, subst, ◌∙◌, arith}
 use Rattle.std.specs.Prelude.{length, slice_get, All, Contains}
 use Rattle.std.specs.List.{AllByRecursion}
 use Rattle.std.proofs.lemmas.List.Elements.{All-from_recursion, recursion_from_All}
@@ -20,8 +20,7 @@ use Rattle.temp_code.specs.declared.code.Code.{Code}
 use Rattle.temp_code.specs.declared.code.Unit.{Unit as Program}
 use Rattle.temp_code.specs.Routines.{routine_of, image_of}
 use Rattle.temp_laws.specs.Targets.{target_of}
-use Rattle.naive_code.specs.Operations.{Op}
-use Rattle.naive_code.specs.Functions.{function_labels, function_homes}
+use Rattle.naive_code.specs.Functions.{function_labels}
 use Rattle.naive_counts.specs.Counts.{most_in, IsWithinWeight as CodeIsWithinWeight}
 use Rattle.naive_counts.specs.Homes.{HomesAreSlots}
 use Rattle.naive_builder.specs.Appending.{opened}

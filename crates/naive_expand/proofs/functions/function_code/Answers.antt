@@ -39,7 +39,7 @@ returns-clause-code g c = λ h is.
     subst (λ (k : Function). IsMadeOf d m c.args.t.now c.args.number k c.args.label (record { code = c.in_ok-code.code; next_label = c.in_ok-out.out.next_label }))
     (some_function f h (sym found ∙ is))
     (made_by d m c.args.t.now c.args.number f c.args.label c.in-Ok.params c.in_ok-frame.frame c.in_ok-out.out c.in_ok-code.code params frame are
-    c.in_ok-code.ensures.numbers c.in_ok-code.ensures.does)
+    c.in_ok-code.ensures.numbers c.in_ok-code.ensures.does c.in_ok-code.ensures.built)
 
 pub returns-clause-site : goal.returns-clause-site
 returns-clause-site g c = c.in_ok-out.ensures.site c.args.m.now.word c.args.t.now.statics c.requires.site

@@ -37,5 +37,5 @@ returns g c =
     let placed = subst (λ (ss : List Static). IsPlaced (machine_of d m) (image_of u) ss) c.as_slice.ensures
     (c.in_ok-data.ensures.placed (machine_of d m) (image_of u) (checked_word w d c.word_bits.ensures.checked) (sym c.layout.ensures.base) refl refl) in
     naive_code w d m c.args.t.now u
-    (record { targets = c.targets_are_sound.ensures; labels = c.all_labels_are_once.ensures; same = c.naive_code_does_the_same.ensures })
+    (record { targets = c.targets_are_sound.ensures; labels = c.all_labels_are_once.ensures; same = c.naive_code_does_the_same.ensures; good = c.units_are_good.ensures })
     c.word_bits.ensures.checked c.new-rows.ensures.frame c.requires room c.in_ok-codes.ensures placed c.in_ok-names.ensures.functions c.in_ok-names.ensures.objects

@@ -37,6 +37,7 @@ has_found d t p n l i k row g es r at is has q s f =
   where
     ms : List Move
     ms = shape_moves (frame_of d.word t.frame) p (on_temporaries 0 1 n 0 l)
+
     first : found d t p n l ≡ made_by d.word g es k row
     first =
         ap (λ (j : ℕ). made_at d ms (get_or t.rows j None)) (sym at)

@@ -126,14 +126,23 @@ fn returns(alloc: Global, bits: u32, frame: Frame) -> Result<Effects, NoMemory>
     }
 }
 
-fn saves_link(alloc: Global, link: Option<u8>, stack: Cell, number: u32) -> Result<Effects, NoMemory>
+fn saves_link(
+    alloc: Global,
+    link: Option<u8>,
+    stack: Cell,
+    number: u32,
+) -> Result<Effects, NoMemory>
     requires { has_link link ≡ true }
     ensures { IfOk result (λ e. e ≡ saved link (Binary Add (Read stack) (Number number))) }
 {
     match link {
         Some(link) => {
             let place = above(alloc, stack, number)?;
-            one(alloc, Place::Mem(Width::Full, place), Expr::Cell(Cell::Hard(link)))
+            one(
+                alloc,
+                Place::Mem(Width::Full, place),
+                Expr::Cell(Cell::Hard(link)),
+            )
         }
         None => unreachable!(),
     }

@@ -28,7 +28,7 @@ row_instance-requires-clause-doer g c =
     let covers = subst (λ (r : Row). CoversPattern e r c.args.pattern) (sym same) x.2 in
     let bits = c.general_bits-general.ensures ∙ ap (λ (rs : List Register). general_bits rs) c.as_slice.ensures in
     let fit = subst (λ (d : RawDescription). IsOpenOf d.word (general_bits d.registers) c.args.pattern (on_temporaries 0 1 c.args.number 0 c.args.label)) back
-        (is_open c.args.m.now c.args.pattern c.args.number c.args.label c.requires.number) in
+    (is_open c.args.m.now c.args.pattern c.args.number c.args.label c.requires.number) in
     make_doer g.W.Word.BITS e c.args.rows.now c.args.pattern (on_temporaries 0 1 c.args.number 0 c.args.label) c.general_bits-general.result c.in-Some.place
     c.index-as_slice-from.result c.in_ok-transfer.transfer c.said_is_sound.ensures c.raw-d.ensures.checked rows has covers fit bits c.in_ok-transfer.ensures
 

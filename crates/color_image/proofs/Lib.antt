@@ -1,0 +1,5 @@
+pub mod Transfers
+pub mod Blocks
+pub mod Routines
+pub mod Images
+pub mod Rows

@@ -1,0 +1,5 @@
+mod Bitwise
+mod Apart
+mod Falling
+mod Meetings
+mod Greedily

@@ -1,0 +1,5 @@
+pub mod Writing
+pub mod Numbers
+pub mod Whole
+pub mod Covered
+pub mod Coding

@@ -1,0 +1,3 @@
+pub mod Glue
+pub mod Lines
+pub mod Laws

@@ -1,0 +1,4 @@
+pub mod Found
+pub mod Glue
+pub mod Sizes
+pub mod Units

@@ -1,0 +1,4 @@
+pub mod Lists
+pub mod Paths
+pub mod Nodes
+pub mod Table

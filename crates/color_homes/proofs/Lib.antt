@@ -1,0 +1,7 @@
+mod Lists
+mod AtHome
+mod Registers
+mod Standing
+mod Homes
+mod Renaming
+mod Facts

@@ -1,0 +1,8 @@
+use Rattle.std.proofs.Common.{◌≡◌, take}
+use Rattle.std.specs.Prelude.{filter}
+use Rattle.rtl_tree.specs.declared.cells.Cell.TheVariants.{Temp}
+use Rattle.temp_machine.specs.Cells.{sets}
+use Rattle.color_homes.proofs.reading.all_set.Given as goal
+
+abbrev pub invariant-loop-k : goal.invariant-loop-k
+invariant-loop-k l = l.those.items ≡ filter (λ k. sets (Temp k) l.moves) (take l.k-index l.list)

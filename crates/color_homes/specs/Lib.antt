@@ -1,0 +1,3 @@
+pub mod Spilled
+pub mod Putting
+pub mod Loading

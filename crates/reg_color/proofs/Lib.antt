@@ -1,0 +1,4 @@
+mod Bodies
+mod Endings
+mod Premises
+mod Whole

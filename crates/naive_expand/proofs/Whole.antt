@@ -161,6 +161,7 @@ naive_code w d m t u laws c e h room codes placed functions objects =
       functions = functions;
       objects = objects;
       numbers = numbers_are d m t 0 0 t.functions u.codes codes;
+      addresses = placed.count;
       machine = machine;
       unit = unit;
       labels = subst AreOnce (sym (labels_are d m t 0 0 t.functions u.codes codes)) (laws.labels [] d.word (pushed_by m.link (d.word / 8)) t t.functions 0);

@@ -44,6 +44,7 @@ pub record IsNaiveCode (d : RawDescription) (t : Typed) (u : Program) : Type 0 w
   pub functions : u.names.functions ≡ map (λ f. f.name) t.functions
   pub objects : u.names.objects ≡ map (λ s. s.object.name) t.statics
   pub numbers : map (λ c. c.function) u.codes ≡ numbers_from 0 (length t.functions)
+  pub addresses : length u.symbols ≡ length t.statics
   pub machine : IsSoundTarget (machine_of d frame) (image_of u)
   pub unit : IsUnitOf (machine_of d frame) frame t (image_of u)
   pub labels : AreOnce (labels_of u.codes)

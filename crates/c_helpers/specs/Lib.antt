@@ -1,0 +1,4 @@
+pub mod Code
+pub mod Helpers
+pub mod Operators
+pub mod Law

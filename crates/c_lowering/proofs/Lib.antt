@@ -1,0 +1,11 @@
+mod Following
+mod Sandwich
+mod Expressions
+mod Lowered
+mod Computes
+mod Statements
+mod Fair
+mod Frames
+mod Holding
+mod Calls
+mod Whole

@@ -1,0 +1,10 @@
+pub mod Codes
+pub mod Coloring
+pub mod Compiling
+pub mod Composed
+pub mod Keeping
+pub mod Linking
+pub mod Lists
+pub mod Made
+pub mod Numbers
+pub mod Rooms

@@ -1,0 +1,5 @@
+pub mod Compiling
+pub mod Passes
+pub mod Codes
+pub mod Units
+pub mod Meaning

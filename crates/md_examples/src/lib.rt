@@ -21,8 +21,6 @@ mod duo_rows;
 mod duo_shapes;
 mod edits;
 #[cfg(test)]
-mod first_forms;
-#[cfg(test)]
 mod form_tests;
 #[cfg(test)]
 mod instance_tests;

@@ -1,5 +1,7 @@
 //! Words over two files, and what they come to.
 
+use vpo_top::PDP11;
+
 /// Words over a description `d` and a source `s`: what is written, what is told on the error stream, and the status.
 pub struct Case {
     pub words: &'static [&'static str],
@@ -10,8 +12,8 @@ pub struct Case {
     pub status: u8,
 }
 
-/// A description of the first form.
-pub const TINY: &[u8] = b"\
+/// A description that names no stack register.
+const TINY: &[u8] = b"\
 vpo 1
 name tiny
 word 16
@@ -24,32 +26,67 @@ row put | OUT = r[0]
 row end | HALT = r[0]
 ";
 
-pub const HELLO: &[u8] =
-    b"#include <stdio.h>\nint main(void){putchar(72);putchar(321);return 7;}\n";
+/// A source that is refused for the description of the pdp11, and the line that tells why. In the order in which sources are judged: tokens,
+/// grammar, types, limits, and what the machine lacks.
+pub const REFUSED: [(&[u8], &[u8]); 9] = [
+    (
+        b"int main(void){return +;} /*",
+        b"vpo: source line 1 column 27: rule 3\n",
+    ),
+    (
+        b"int main(void){return +;}",
+        b"vpo: source line 1 column 24: rule 5\n",
+    ),
+    (
+        b"int main(void){return x;}",
+        b"vpo: source line 1 column 23: rule 11\n",
+    ),
+    (b"int x;\n", b"vpo: source line 2 column 1: rule 31\n"),
+    (
+        b"int main(void){int a[16000];return 0;}",
+        b"vpo: source line 1 column 5: rule 41\n",
+    ),
+    (
+        b"int a[20000];int main(void){return 6*7;}",
+        b"vpo: source line 1 column 5: rule 43\n",
+    ),
+    (
+        b"int main(void){return 6*7;}",
+        b"vpo: source line 1 column 23: rule 51\n",
+    ),
+    (
+        b"int main(void){int x=1;\nx*=2;return x<<1;}",
+        b"vpo: source line 2 column 1: rule 51\n",
+    ),
+    (
+        b"int main(void){unsigned x=1;\nif(x+1)x>>=1;return x;}",
+        b"vpo: source line 2 column 8: rule 51\n",
+    ),
+];
 
 pub const COMMANDS: [Case; 4] = [
     Case {
-        words: &["cc", "d", "s"],
-        description: TINY,
-        source: HELLO,
-        output: b".text\n\tset 72,a\n\tput\n\tset 321,a\n\tput\n\tset 7,a\n\tend\n",
-        told: b"",
-        status: 0,
+        words: &["cc", "--plain", "d", "s"],
+        description: PDP11,
+        source: b"int main(void){return 6^7;}",
+        output: b"",
+        told: b"vpo: source line 1 column 23: rule 51\n",
+        status: 67,
     },
     Case {
         words: &["cc", "d", "s"],
         description: TINY,
-        source: b"#include <stdio.h>\nint main(void){putchar(72);putchar(x);return 7;}\n",
+        source: b"int main(void){return x;}",
         output: b"",
-        told: b"vpo: source line 1 column 1: rule 50\n",
-        status: 67,
+        told: b"vpo: description line 10: rule 9 (0)\n",
+        status: 66,
     },
     Case {
         words: &["cc", "d", "s"],
         description: b"vpo 1\n",
         source: b"",
         output: b"",
-        told: b"vpo: description line 1: rule 50 (0)\n",
+        told: b"vpo: description line 1: rule 4 (0)\n",
         status: 66,
     },
     Case {
@@ -63,14 +100,16 @@ pub const COMMANDS: [Case; 4] = [
 ];
 
 /// Words that have no plain form.
-pub const BAD_WORDS: [&[&str]; 22] = [
+pub const BAD_WORDS: [&[&str]; 24] = [
     &[],
     &["cc"],
     &["cc", "d"],
     &["cc", "d", "s", "x"],
     &["cc", "", "s"],
     &["cc", "d", "-"],
-    &["cc", "--plain", "d", "s"],
+    &["cc", "--dump", "d", "s"],
+    &["cc", "--plain", "d"],
+    &["cc", "d", "--plain", "s"],
     &["check", ""],
     &["check", "-x"],
     &["check", "d", "s"],

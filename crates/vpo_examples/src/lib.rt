@@ -3,11 +3,19 @@
 #![tactic(auto)]
 
 #[cfg(test)]
+mod calls;
+#[cfg(test)]
 mod cases;
 #[cfg(test)]
 mod mips_runs;
 #[cfg(test)]
 mod pdp11_runs;
+#[cfg(test)]
+mod program_tests;
+#[cfg(test)]
+mod programs;
+#[cfg(test)]
+mod row_tests;
 #[cfg(test)]
 mod run_cases;
 #[cfg(test)]

@@ -1,58 +1,15 @@
 //! Texts that run on their machines, and faults of what lies outside while they do.
 
-ghost use Rattle.std.specs.Prelude.{◌<◌};
-
+use crate::calls::{run, source};
 use crate::mips_runs::MIPS_RUNS;
 use crate::pdp11_runs::{ECHO, PDP11_REFUSED, PDP11_RUNS};
 use crate::run_cases::RunCase;
-use crate::seen::{Seen, file, owned, sink};
+use crate::seen::sink;
 use crate::uno_runs::{UNO_RUNS, uno};
 use std::alloc::{AllocError, Global};
 use std::test::Fail;
-use vp_io::{MemFiles, MemSink, MemSource, Outcome, Which};
-use vpo_top::{MIPS, PDP11, vpo};
-
-/// Bytes to read, in pieces of so many, where the reads of these numbers fail.
-fn source(
-    alloc: Global,
-    bytes: &[u8],
-    piece: usize,
-    failing: &[u64],
-) -> Result<MemSource, AllocError>
-    requires { 0 < piece }
-{
-    Ok(MemSource::new(bytes.to_vec(alloc)?, piece, failing.to_vec(alloc)?))
-}
-
-/// What a run of a text `a` on a machine `d` comes to.
-fn run(
-    alloc: Global,
-    steps: &str,
-    machine: &[u8],
-    text: &[u8],
-    mut input: MemSource,
-    mut output: MemSink,
-) -> Result<Seen, AllocError> {
-    let words = owned(alloc, &["run", "--steps", steps, "d", "a"])?;
-    let mut entries = Vec::new(alloc);
-    entries.push(file(alloc, "d", Some(machine))?)?;
-    entries.push(file(alloc, "a", Some(text))?)?;
-    let mut files = MemFiles::new(entries, 4096, Vec::new(alloc));
-    let mut errors = sink(alloc, 4, &[])?;
-    let outcome = vpo(
-        alloc,
-        &words,
-        &mut files,
-        &mut input,
-        &mut output,
-        &mut errors,
-    );
-    Ok(Seen {
-        outcome,
-        output,
-        errors,
-    })
-}
+use vp_io::{Outcome, Which};
+use vpo_top::{MIPS, PDP11};
 
 fn is_as_said(alloc: Global, machine: &[u8], case: &RunCase) -> Result<bool, AllocError> {
     let (steps, text, bytes, printed, told, status) = case;

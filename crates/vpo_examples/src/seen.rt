@@ -36,3 +36,8 @@ pub fn sink(alloc: Global, piece: usize, failing: &[u64]) -> Result<MemSink, All
 {
     Ok(MemSink::new(vec![in alloc; 0; 8192]?, piece, failing.to_vec(alloc)?))
 }
+
+/// A sink that takes the text of any program here.
+pub fn wide_sink(alloc: Global) -> Result<MemSink, AllocError> {
+    Ok(MemSink::new(vec![in alloc; 0; 262_144]?, 4096, Vec::new(alloc)))
+}

@@ -1,39 +1,10 @@
-use crate::cases::{BAD_WORDS, COMMANDS, Case, HELLO, TINY};
-use crate::seen::{Seen, file, owned, sink};
+use crate::calls::run_to;
+use crate::cases::{BAD_WORDS, COMMANDS, Case, REFUSED};
+use crate::seen::{Seen, owned, sink};
 use std::alloc::{AllocError, Global};
 use std::test::Fail;
-use vp_io::{MemFiles, MemSink, Outcome, SafeSource, Which};
-use vpo_top::{MIPS, PDP11, Request, WordsFault, read_words, vpo};
-
-/// What the words do over a description `d` and a source `s`.
-fn run_to(
-    alloc: Global,
-    words: &[&str],
-    description: Option<&[u8]>,
-    source: Option<&[u8]>,
-    mut output: MemSink,
-) -> Result<Seen, AllocError> {
-    let words = owned(alloc, words)?;
-    let mut entries = Vec::new(alloc);
-    entries.push(file(alloc, "d", description)?)?;
-    entries.push(file(alloc, "s", source)?)?;
-    let mut files = MemFiles::new(entries, 4096, Vec::new(alloc));
-    let mut input = SafeSource::new(Vec::new(alloc));
-    let mut errors = sink(alloc, 4, &[])?;
-    let outcome = vpo(
-        alloc,
-        &words,
-        &mut files,
-        &mut input,
-        &mut output,
-        &mut errors,
-    );
-    Ok(Seen {
-        outcome,
-        output,
-        errors,
-    })
-}
+use vp_io::{Outcome, Which};
+use vpo_top::{MIPS, PDP11, Request, WordsFault, read_words};
 
 fn run(
     alloc: Global,
@@ -57,6 +28,19 @@ fn is_as_said(alloc: Global, case: &Case) -> Result<bool, AllocError> {
 fn commands_do_as_said(rt: HostRuntime) -> Result<(), Fail> {
     for case in &COMMANDS {
         assert!(rt; is_as_said(rt.alloc(), case)?);
+    }
+    Ok(())
+}
+
+fn is_refused(alloc: Global, source: &[u8], told: &[u8]) -> Result<bool, AllocError> {
+    let seen = run(alloc, &["cc", "d", "s"], Some(PDP11), Some(source))?;
+    Ok(seen.outcome.code() == 67 && seen.output.bytes().is_empty() && seen.errors.bytes() == told)
+}
+
+#[test]
+fn sources_are_refused(rt: HostRuntime) -> Result<(), Fail> {
+    for (source, told) in &REFUSED {
+        assert!(rt; is_refused(rt.alloc(), source, told)?);
     }
     Ok(())
 }
@@ -101,6 +85,17 @@ fn words_are_read(rt: HostRuntime) -> Result<(), Fail> {
             })
         )
     );
+    let words = owned(alloc, &["cc", "--plain", "d", "s"])?;
+    assert!(rt;
+        matches!(
+            read_words(alloc, &words),
+            Ok(Request::Cc {
+                dump: false,
+                plain: true,
+                ..
+            })
+        )
+    );
     let words = owned(alloc, &["show", "mips"])?;
     assert!(rt; matches!(read_words(alloc, &words), Ok(Request::Show { which: 1 })));
     let words = owned(alloc, &["check", "d"])?;
@@ -138,19 +133,19 @@ fn files_that_are_long_or_missing(rt: HostRuntime) -> Result<(), Fail> {
     let cc = ["cc", "d", "s"];
     let seen = run(alloc, &cc, Some(long), None)?;
     assert_eq!(rt; seen.outcome, Outcome::FileTooLong(Which::Description));
-    let seen = run(alloc, &cc, Some(TINY), Some(long))?;
+    let seen = run(alloc, &cc, Some(PDP11), Some(long))?;
     assert_eq!(rt;
         seen.errors.bytes(),
         b"vpo: file too long: source\n".as_slice()
     );
-    let seen = run(alloc, &cc, Some(TINY), Some(&long[1..]))?;
+    let seen = run(alloc, &cc, Some(PDP11), Some(&long[1..]))?;
     assert_eq!(rt; seen.outcome.code(), 67);
     let seen = run(alloc, &["check", "d"], None, None)?;
     assert_eq!(rt;
         seen.errors.bytes(),
         b"vpo: read fault: description\n".as_slice()
     );
-    let seen = run(alloc, &cc, Some(TINY), None)?;
+    let seen = run(alloc, &cc, Some(PDP11), None)?;
     assert_eq!(rt; seen.outcome, Outcome::ReadFault(Which::Text));
     Ok(())
 }
@@ -158,10 +153,6 @@ fn files_that_are_long_or_missing(rt: HostRuntime) -> Result<(), Fail> {
 #[test]
 fn an_output_that_fails(rt: HostRuntime) -> Result<(), Fail> {
     let alloc = rt.alloc();
-    let output = sink(alloc, 10, &[1])?;
-    let seen = run_to(alloc, &["cc", "d", "s"], Some(TINY), Some(HELLO), output)?;
-    assert_eq!(rt; seen.outcome, Outcome::WriteFault);
-    assert_eq!(rt; seen.output.bytes(), b".text\n\tset".as_slice());
     let output = sink(alloc, 10, &[1])?;
     let seen = run_to(alloc, &["check", "d"], Some(PDP11), None, output)?;
     assert_eq!(rt; seen.output.bytes(), b"accepted p".as_slice());

@@ -1,17 +1,17 @@
 -- That words are answered, from what the command owes and what is reported.
-use Rattle.std.proofs.Common.{◌≡◌, ◌⊎◌, inl, inr, ℕ, false, List, Option, Some, None, refl, subst, sym}
+use Rattle.std.proofs.Common.{◌≡◌, ℕ, Bool, false, List, Option, Some, None, refl, subst, sym}
 use Rattle.vp_io.specs.declared.answers.Which.TheVariants.{Description, Text, Assembly, Input}
 use Rattle.vp_io.specs.declared.answers.Outcome.{Outcome}
 use Rattle.vp_io.specs.declared.answers.Outcome.TheVariants.{BadWords, ReadFault, WriteFault}
 use Rattle.vpo_top.specs.Outside.{Outside}
 use Rattle.vpo_top.specs.Request.{Asked, name_asked, names_a_file, compilation, ReadsNoInput}
-use Rattle.vpo_top.specs.Request.Asked.{Check, Cc, Run}
-use Rattle.vpo_top.specs.Judgement.{IsOfCompilation, IsRefusal}
+use Rattle.vpo_top.specs.Request.Asked.{Check, Cc}
+use Rattle.vpo_top.specs.Judgement.{IsRefusal}
+use Rattle.vpo_top.specs.Compiling.{IsOfCompilation}
 use Rattle.vpo_top.specs.Commands.{IsOfCheck}
-use Rattle.vpo_top.specs.Running.{IsOfRun}
 use Rattle.vpo_top.specs.Messages.{IsReported}
-use Rattle.vpo_top.specs.Faults.{HasReadCause, HasFileCause, HasInputCause, HasWriteCause, HasCause, RoseByName, CountsOnlyAsked}
-use Rattle.vpo_top.specs.Answer.{IsAnswer, IsAnswered, IsCheck, IsCompilation, IsExecution}
+use Rattle.vpo_top.specs.Faults.{HasReadCause, HasWriteCause, HasCause, RoseByName, CountsOnlyAsked}
+use Rattle.vpo_top.specs.Answer.{IsAnswer, IsAnswered, IsCheck, IsCompilation}
 
 -- a fault has its cause, where the input has no name
 has_cause : {F S K E : Type 0} (wanted : Option Asked) (before now : Outside F S K E) (outcome : Outcome)
@@ -74,62 +74,22 @@ check_answered wanted desc before now outcome told is same answer read write fet
       reported = reported;
     })
 
-no_words_of_compilation : (outcome : Outcome) → IsOfCompilation outcome → outcome ≡ BadWords → ⊥
-no_words_of_compilation outcome possible bad = let P : Outcome → Type 0 = λ o. IsOfCompilation o in by_case (subst P bad possible)
-  where
-    by_case : ⊥ ⊎ ⊥ → ⊥
-    by_case (inl h) = h
-    by_case (inr h) = h
-
-pub compilation_answered : {F S K E : Type 0} (wanted : Option Asked) (desc src : List ℕ) (before now : Outside F S K E) (outcome told : Outcome)
-    → wanted ≡ compilation desc src → told ≡ outcome → IsCompilation desc src before.files before.output now.output outcome
-    → HasReadCause (compilation desc src) before.files.told before.files.faults now.files.faults outcome
+pub compilation_answered : {F S K E : Type 0} (wanted : Option Asked) (plain : Bool) (desc src : List ℕ) (before now : Outside F S K E) (outcome told : Outcome)
+    → wanted ≡ compilation plain desc src → told ≡ outcome → IsCompilation desc src before.files before.output now.output outcome
+    → HasReadCause (compilation plain desc src) before.files.told before.files.faults now.files.faults outcome
     → HasWriteCause before.output.faults now.output.faults outcome
-    → CountsOnlyAsked (compilation desc src) before.files.faults now.files.faults → now.files.told ≡ before.files.told
+    → CountsOnlyAsked (compilation plain desc src) before.files.faults now.files.faults → now.files.told ≡ before.files.told
     → (IsRefusal outcome → now.output ≡ before.output) → now.input ≡ before.input → IsReported outcome before.errors now.errors
     → IsAnswered wanted before now told
-compilation_answered wanted desc src before now outcome told is same answer read write fetched kept untouched input reported =
-    answered wanted (Cc false false desc src) before now outcome told is same (record {
+compilation_answered wanted plain desc src before now outcome told is same answer read write fetched kept untouched input reported =
+    answered wanted (Cc false plain desc src) before now outcome told is same (record {
       answer = answer;
-      other = no_words_of_compilation outcome answer.possible;
-      cause = has_cause (compilation desc src) before now outcome refl read write;
+      other = λ bad. let P : Outcome → Type 0 = λ o. IsOfCompilation o in subst P bad answer.possible;
+      cause = has_cause (compilation plain desc src) before now outcome refl read write;
       fetched = fetched;
       not_fetched = λ unnamed. cc unnamed;
       files_kept = kept;
       untouched = untouched;
       input_kept = λ _. input;
-      reported = reported;
-    })
-
--- a fault of a run has its cause
-run_cause : {F S K E : Type 0} (steps : ℕ) (desc asm : List ℕ) (before now : Outside F S K E) (outcome : Outcome)
-    → HasFileCause (Some (Run steps desc asm)) before.files.told before.files.faults now.files.faults outcome
-    → HasInputCause before.input.faults now.input.faults outcome → HasWriteCause before.output.faults now.output.faults outcome
-    → HasCause (Some (Run steps desc asm)) before now outcome
-run_cause steps desc asm before now WriteFault read input write = write
-run_cause steps desc asm before now (ReadFault Input) read input write = input
-run_cause steps desc asm before now (ReadFault Description) read input write = read
-run_cause steps desc asm before now (ReadFault Text) read input write = read
-run_cause steps desc asm before now (ReadFault Assembly) read input write = read
-run_cause steps desc asm before now outcome read input write = tt
-
-pub run_answered : {F S K E : Type 0} (wanted : Option Asked) (steps : ℕ) (desc asm : List ℕ) (before now : Outside F S K E) (outcome told : Outcome)
-    → wanted ≡ Some (Run steps desc asm) → told ≡ outcome
-    → IsExecution steps desc asm before.files before.input now.input before.output now.output outcome
-    → HasFileCause (Some (Run steps desc asm)) before.files.told before.files.faults now.files.faults outcome
-    → HasInputCause before.input.faults now.input.faults outcome → HasWriteCause before.output.faults now.output.faults outcome
-    → CountsOnlyAsked (Some (Run steps desc asm)) before.files.faults now.files.faults → now.files.told ≡ before.files.told
-    → (IsRefusal outcome → now.output ≡ before.output) → IsReported outcome before.errors now.errors
-    → IsAnswered wanted before now told
-run_answered wanted steps desc asm before now outcome told is same answer read input write fetched kept untouched reported =
-    answered wanted (Run steps desc asm) before now outcome told is same (record {
-      answer = answer;
-      other = λ bad. let P : Outcome → Type 0 = λ o. IsOfRun steps o in subst P bad answer.possible;
-      cause = run_cause steps desc asm before now outcome read input write;
-      fetched = fetched;
-      not_fetched = λ unnamed. cc unnamed;
-      files_kept = kept;
-      untouched = untouched;
-      input_kept = λ none. absurd none;
       reported = reported;
     })

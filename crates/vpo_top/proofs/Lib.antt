@@ -1,6 +1,6 @@
 mod Reports
 mod Counts
-mod Outcomes
+mod Compilations
 mod Requests
 mod Steps
 mod Verdicts

@@ -8,7 +8,8 @@ use Rattle.shipped.specs.declared.Shipped.TheVariants.{Pdp11, Mips}
 use Rattle.vpo_top.specs.Outside.{Outside, FilesSeen, InputSeen, SinkSeen}
 use Rattle.vpo_top.specs.Request.{Asked, names_a_file, ReadsNoInput}
 use Rattle.vpo_top.specs.Request.Asked.{Check, Show, Cc, Run}
-use Rattle.vpo_top.specs.Judgement.{OfFiles, Judges, IsOfCompilation, IsRefusal}
+use Rattle.vpo_top.specs.Judgement.{OfFiles, IsRefusal}
+use Rattle.vpo_top.specs.Compiling.{JudgesCompilation, IsOfCompilation}
 use Rattle.vpo_top.specs.Headline.{IsWritten}
 use Rattle.vpo_top.specs.Commands.{JudgesCheck, IsOfCheck, IsVerdictWritten, IsShown}
 use Rattle.asm_run.specs.Runs.{TakesSome}
@@ -25,12 +26,12 @@ pub record IsCheck {F K : Type 0} (desc : List ℕ) (files : FilesSeen F) (old n
   -- where the file isn't told, no other outcome comes all the same
   pub possible : IsOfCheck outcome
 
--- cc DESC SRC
+-- cc [--plain] DESC SRC
 pub record IsCompilation {F K : Type 0} (desc src : List ℕ) (files : FilesSeen F) (old new : SinkSeen K) (outcome : Outcome) : Type 0 where
   -- what is compiled is an assembly text of the described machine that does what the source does
   pub headline : OfFiles files.told desc src (λ machine_text source_text. IsWritten machine_text source_text old.written new.written outcome)
   -- each outcome comes exactly where the files give cause for it
-  pub judged : OfFiles files.told desc src (λ machine_text source_text. Judges machine_text source_text outcome)
+  pub judged : OfFiles files.told desc src (λ machine_text source_text. JudgesCompilation machine_text source_text outcome)
   -- where the files aren't told, no other outcome comes all the same
   pub possible : IsOfCompilation outcome
 
@@ -55,12 +56,11 @@ machine_of (suc n) = Mips
 abbrev pub IsAnswer : {F S K E : Type 0} → Asked → Outside F S K E → Outside F S K E → Outcome → Type 0
 IsAnswer (Check desc) before now outcome = IsCheck desc before.files before.output now.output outcome
 IsAnswer (Show which) before now outcome = IsShown (machine_of which) before.output.written now.output.written outcome
-IsAnswer (Cc false false desc src) before now outcome = IsCompilation desc src before.files before.output now.output outcome
+IsAnswer (Cc false plain desc src) before now outcome = IsCompilation desc src before.files before.output now.output outcome
 IsAnswer (Run steps desc asm) before now outcome =
     IsExecution steps desc asm before.files before.input now.input before.output now.output outcome
--- no words ask for these so far
+-- no words ask for dumps so far
 IsAnswer (Cc true plain desc src) before now outcome = ⊥
-IsAnswer (Cc false true desc src) before now outcome = ⊥
 
 abbrev pub IsAnswerTo : {F S K E : Type 0} → Option Asked → Outside F S K E → Outside F S K E → Outcome → Type 0
 IsAnswerTo (Some request) before now outcome = IsAnswer request before now outcome

@@ -6,7 +6,7 @@ use Rattle.vp_io.specs.declared.answers.Which.TheVariants.{Description}
 use Rattle.vp_io.specs.declared.answers.Outcome.{Outcome}
 use Rattle.vp_io.specs.declared.answers.Outcome.TheVariants.{Done, NoMemory, FileTooLong, BadDescription, ReadFault, WriteFault}
 use Rattle.md_rows.specs.declared.description.RawDescription.{RawDescription}
-use Rattle.md_check.specs.Accepted.{IsAcceptedText, IsRefusedText}
+use Rattle.md_check.specs.Accepted.{IsAcceptedText, IsRefusedText, normalised}
 use Rattle.md_verdict.specs.declared.accepted.Accepted.{Accepted}
 use Rattle.md_verdict.specs.Verdict.{IsAcceptedAs}
 use Rattle.md_verdict.specs.Line.{verdict_line_of}
@@ -17,6 +17,10 @@ use Rattle.vpo_top.specs.Judgement.{byte_limit}
 -- the bytes are short enough, and a description that is accepted
 abbrev pub IsAcceptedMachine : List ℕ → Type 0
 IsAcceptedMachine text = (length text ≤ byte_limit) × ((d : RawDescription) × IsAcceptedText text d)
+
+-- a description is accepted, and what it says has P
+abbrev pub OfMachine : List ℕ → (RawDescription → Type 0) → Type 0
+OfMachine description P = (length description ≤ byte_limit) × ((d : RawDescription) × IsAcceptedText description d × P (normalised d))
 
 -- the bytes are short enough, and accepted as this description
 abbrev pub IsMachineOf : List ℕ → Accepted → Type 0

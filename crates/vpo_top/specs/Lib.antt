@@ -2,6 +2,7 @@ pub mod Outside
 pub mod Request
 pub mod Messages
 pub mod Headline
+pub mod Compiling
 pub mod Judgement
 pub mod Commands
 pub mod Running

@@ -42,16 +42,16 @@ check_of desc = cond (is_file_word desc) (Some (Check desc)) None
 abbrev pub show_of : List ℕ → Option Asked
 show_of name = cond (bytes_eq name (name_of Pdp11)) (Some (Show 0)) (cond (bytes_eq name (name_of Mips)) (Some (Show 1)) None)
 
--- the compilation of these two
-abbrev pub compilation : List ℕ → List ℕ → Option Asked
-compilation desc src = Some (Cc false false desc src)
+-- the compilation of these two, with plain code where that is asked for
+abbrev pub compilation : Bool → List ℕ → List ℕ → Option Asked
+compilation plain desc src = Some (Cc false plain desc src)
 
 -- cc DESC SRC
 abbrev pub is_compilation_form : List ℕ → List ℕ → List ℕ → Bool
 is_compilation_form command desc src = bytes_eq command (codes "cc") && (is_file_word desc && is_file_word src)
 
-abbrev pub compilation_of : List ℕ → List ℕ → List ℕ → Option Asked
-compilation_of command desc src = cond (is_compilation_form command desc src) (compilation desc src) None
+abbrev pub compilation_of : Bool → List ℕ → List ℕ → List ℕ → Option Asked
+compilation_of plain command desc src = cond (is_compilation_form command desc src) (compilation plain desc src) None
 
 -- the steps of a run where none are asked for, and the most that may be
 abbrev pub usual_steps : ℕ
@@ -81,7 +81,11 @@ run_with_steps None command desc asm = None
 
 abbrev pub three_words : List ℕ → List ℕ → List ℕ → Option Asked
 three_words command first second =
-    cond (bytes_eq command (codes "cc")) (compilation_of command first second) (run_of command usual_steps first second)
+    cond (bytes_eq command (codes "cc")) (compilation_of false command first second) (run_of command usual_steps first second)
+
+-- cc --plain DESC SRC
+abbrev pub four_words : List ℕ → List ℕ → List ℕ → List ℕ → Option Asked
+four_words command option desc src = cond (bytes_eq option (codes "--plain")) (compilation_of true command desc src) None
 
 abbrev pub five_words : List ℕ → List ℕ → List ℕ → List ℕ → List ℕ → Option Asked
 five_words command option steps desc asm = cond (bytes_eq option (codes "--steps")) (run_with_steps (steps_of steps) command desc asm) None
@@ -91,6 +95,7 @@ abbrev pub request_of : List (List ℕ) → Option Asked
 request_of (command ∷ word ∷ []) =
     cond (bytes_eq command (codes "check")) (check_of word) (cond (bytes_eq command (codes "show")) (show_of word) None)
 request_of (command ∷ first ∷ second ∷ []) = three_words command first second
+request_of (command ∷ option ∷ first ∷ second ∷ []) = four_words command option first second
 request_of (command ∷ option ∷ steps ∷ desc ∷ asm ∷ []) = five_words command option steps desc asm
 request_of _ = None
 

@@ -4,23 +4,17 @@ use Rattle.vp_io.specs.declared.answers.Reason.{Reason}
 use Rattle.vp_io.specs.declared.answers.Which.TheVariants.{Assembly, Input}
 use Rattle.vp_io.specs.declared.answers.Outcome.{Outcome}
 use Rattle.vp_io.specs.declared.answers.Outcome.TheVariants.{Done, FileTooLong, BadAssembly, ReadFault, WriteFault, Trapped, Spent}
-use Rattle.md_rows.specs.declared.description.RawDescription.{RawDescription}
-use Rattle.md_check.specs.Accepted.{IsAcceptedText, normalised}
 use Rattle.asm_text.specs.Read.{IsCause}
 use Rattle.machine_step.specs.declared.running.Stop.{Stop}
 use Rattle.machine_step.specs.declared.running.Stop.TheVariants as stop
 use Rattle.asm_run.specs.Runs.{IsAssemblyText, TextRunsTo}
 use Rattle.vpo_top.specs.Judgement.{byte_limit}
 use Rattle.vpo_top.specs.declared.running.Found.{Found}
-use Rattle.vpo_top.specs.Commands.{IsAcceptedMachine, IsMachineOf, JudgesCheck, IsRefusalOfCheck}
+use Rattle.vpo_top.specs.Commands.{OfMachine, IsAcceptedMachine, IsMachineOf, JudgesCheck, IsRefusalOfCheck}
 
 -- the most bytes of an assembly text
 abbrev pub assembly_limit : ℕ
 assembly_limit = 67108864
-
--- a description is accepted, and the text is judged by what it says
-abbrev pub OfMachine : List ℕ → (RawDescription → Type 0) → Type 0
-OfMachine description P = (length description ≤ byte_limit) × ((d : RawDescription) × IsAcceptedText description d × P (normalised d))
 
 -- a machine and a text that are to run were found in these bytes
 pub record IsFoundIn (description text : List ℕ) (found : Found) : Type 0 where

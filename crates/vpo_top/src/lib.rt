@@ -11,9 +11,6 @@
 //! - `running`: `run` fetches a description and an assembly text, and runs the text on the described machine.
 //! - `showing`: `show` writes a description that comes with the program.
 //! - `report`: the line on the error stream.
-//!
-//! `cc` accepts descriptions of the first form, of which `tiny.vpo` is one; by the general rules of `check` that one is refused, by
-//! rule 9, since it names no stack register.
 #![tactic(auto)]
 
 mod checking;

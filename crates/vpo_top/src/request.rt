@@ -1,6 +1,6 @@
 //! What the words of the command line ask for.
 
-ghost use Rattle.vpo_top.specs.Request.{request_of, three_words, five_words, compilation_of, is_compilation_form, run_of, is_run_form, run_with_steps, are_steps, steps_of, usual_steps, show_of, check_of, bytes_of_words, is_file_word, IsReadAs};
+ghost use Rattle.vpo_top.specs.Request.{request_of, three_words, four_words, five_words, compilation_of, is_compilation_form, run_of, is_run_form, run_with_steps, are_steps, steps_of, usual_steps, show_of, check_of, bytes_of_words, is_file_word, IsReadAs};
 ghost use Rattle.std.specs.Prelude.{◌≡◌, [], ◌∷◌};
 
 use itoa::Buffer;
@@ -19,8 +19,8 @@ pub enum Request {
     Show {
         which: u8,
     },
-    /// The source in a file is compiled for the machine that a file describes. No words ask for the dumps of the passes, or for plain
-    /// code, so far.
+    /// The source in a file is compiled for the machine that a file describes, with `plain` without optimising. No words ask for the
+    /// dumps of the passes so far.
     Cc {
         dump: bool,
         plain: bool,
@@ -91,11 +91,12 @@ fn asks_for_compilation(command: &str, desc: &str, src: &str) -> bool
 
 fn read_compilation(
     alloc: Global,
+    plain: bool,
     command: &str,
     desc: &str,
     src: &str,
 ) -> Result<Request, WordsFault>
-    ensures { IsReadAs (compilation_of command.now desc.now src.now) result }
+    ensures { IsReadAs (compilation_of plain command.now desc.now src.now) result }
 {
     if !asks_for_compilation(command, desc, src) {
         return Err(WordsFault::BadWords);
@@ -108,7 +109,7 @@ fn read_compilation(
     };
     Ok(Request::Cc {
         dump: false,
-        plain: false,
+        plain,
         desc,
         src,
     })
@@ -196,8 +197,23 @@ fn read_three(
     ensures { IsReadAs (three_words command.now first.now second.now) result }
 {
     match command {
-        "cc" => read_compilation(alloc, command, first, second),
+        "cc" => read_compilation(alloc, false, command, first, second),
         _ => read_run(alloc, command, USUAL_STEPS, first, second),
+    }
+}
+
+fn read_four(
+    alloc: Global,
+    command: &str,
+    option: &str,
+    desc: &str,
+    src: &str,
+) -> Result<Request, WordsFault>
+    ensures { IsReadAs (four_words command.now option.now desc.now src.now) result }
+{
+    match option {
+        "--plain" => read_compilation(alloc, true, command, desc, src),
+        _ => Err(WordsFault::BadWords),
     }
 }
 
@@ -226,6 +242,13 @@ pub fn read_words(alloc: Global, words: &Vec<String>) -> Result<Request, WordsFa
         [command, first, second] => {
             read_three(alloc, command.as_str(), first.as_str(), second.as_str())
         }
+        [command, option, first, second] => read_four(
+            alloc,
+            command.as_str(),
+            option.as_str(),
+            first.as_str(),
+            second.as_str(),
+        ),
         [command, option, steps, desc, asm] => read_five(
             alloc,
             command.as_str(),

@@ -33,8 +33,15 @@ pub fn vpo<F: Files, S: Source, K: Sink, E: Sink>(
             report(check_to(alloc, files, desc.as_str(), output), errors)
         }
         Ok(Request::Show { which }) => report(show_to(which, output), errors),
-        Ok(Request::Cc { desc, src, .. }) => report(
-            compile_to(alloc, files, desc.as_str(), src.as_str(), output),
+        Ok(
+            Request::Cc {
+                plain,
+                desc,
+                src,
+                ..
+            },
+        ) => report(
+            compile_to(alloc, files, desc.as_str(), src.as_str(), plain, output),
             errors,
         ),
         Ok(Request::Run { steps, desc, asm }) => report(

@@ -15,8 +15,8 @@ returns-in-Ok-Check g c =
 
 pub returns-in-Ok-Cc : goal.returns-in-Ok-Cc
 returns-in-Ok-Cc g c =
-    compilation_answered _ c.as_str-in-Ok-Cc.result.now c.as_str-in-Ok-Cc-2.result.now _ _ c.compile_to.result _
-    (compilation_wanted (bytes_of_words c.args.words.now.items) c.in-Ok-Cc.field-0 c.in-Ok-Cc.field-0-0 c.in-Ok-Cc.field-0-1
+    compilation_answered _ c.in-Ok-Cc.plain c.as_str-in-Ok-Cc.result.now c.as_str-in-Ok-Cc-2.result.now _ _ c.compile_to.result _
+    (compilation_wanted (bytes_of_words c.args.words.now.items) c.in-Ok-Cc.field-0 c.in-Ok-Cc.field-0-0 c.in-Ok-Cc.plain
     c.in-Ok-Cc.desc c.in-Ok-Cc.src c.as_str-in-Ok-Cc.result.now c.as_str-in-Ok-Cc-2.result.now c.in-Ok-Cc.ensures
     (cc c.in-Ok-Cc.field-0-is) c.as_str-in-Ok-Cc.ensures.value c.as_str-in-Ok-Cc-2.ensures.value)
     c.report-in-Ok-Cc.ensures.same c.compile_to.ensures.answer c.compile_to.ensures.read_cause c.compile_to.ensures.write_cause

@@ -1,2 +1,0 @@
-#include <stdio.h>
-int main(void){putchar(72);putchar(321);return 7;}
